@@ -2,6 +2,7 @@
 ghost use mathlib.Core.Path.{_≡_};
 ghost use mathlib.Core.List.{[]};
 ghost use Rattle.shelf.specs.Store.{Store, Lawful, has, above, used, priced, with-held, put-answer, put-after, take-answer, take-buffer, take-after, put-fault-number, take-fault-number};
+ghost use Rattle.shelf.specs.Laws.{Held-is-a-map};
 
 mod quota;
 
@@ -91,4 +92,11 @@ pub trait Shelf {
     /// Lets go of every packet.
     fn clear(&mut self)
         ensures { λ _. ⌜ means (now (self .exit)) ≡ with-held (means (now (self .entry))) [] ⌝ };
+}
+
+/// What is held is a map: look-ups, the least number above and the units are what a map's would be.
+pub fn held_is_a_map() -> u8
+    ensures { λ _. ⌜ Held-is-a-map ⌝ }
+{
+    0
 }
