@@ -1,2 +1,4 @@
 mod Firsts
 mod Requests
+mod Judging
+mod Rescaled

@@ -1,8 +1,10 @@
 -- The request for a retransmission.
 use mathlib.Core.Bool.{Bool, true, cond, not, _&&_}
 use mathlib.Core.List.{List, [], _∷_, _++_}
-use Prim.Native.Nat.{ℕ, _-_, _/_, _%_}
-use lib.ListN.{length, drop, replicate}
+use mathlib.Core.Path.{_≡_}
+use Prim.Native.Nat.{ℕ, _+_, _-_, _/_, _%_, _≤_, _<_}
+use lib.ListN.{length, getD, take, drop, replicate}
+use Rattle.wire.specs.Bytes.{be16, be32}
 use lib.Dec.{eqb, leb}
 use Rattle.std.specs.declared.result.Result.{Result}
 use Rattle.std.specs.declared.result.Result.the-variants.{Ok, Err}
@@ -37,3 +39,18 @@ request-answer buffer source = cond (leb 44 (length buffer)) (cond (source-right
 abbrev pub request-after : List ℕ → ℕ → ℕ → ℕ → List ℕ → List ℕ
 request-after buffer time begin end source =
     cond (leb 44 (length buffer) && source-right source) (request time begin end source ++ drop 44 buffer) buffer
+
+-- a request for the numbers from begin to end, field by field
+pub record Requests (p : List ℕ) (time begin end : ℕ) (source : List ℕ) : Type 0 where
+  pub size : be16 p 0 ≡ 42
+  pub kind : be16 p 2 ≡ 20
+  pub number : be32 p 4 ≡ 0
+  pub sent : be32 p 8 ≡ time
+  pub product : getD p 12 0 ≡ 115
+  pub flag : getD p 13 0 ≡ 1
+  pub entries : getD p 14 0 ≡ 1
+  pub link : getD p 15 0 ≡ 0
+  pub first : be32 p 16 ≡ begin
+  pub last : be32 p 20 ≡ end
+  pub name : take (length source) (drop 24 p) ≡ source
+  pub padding : (k : ℕ) → 24 + length source ≤ k → k < 44 → getD p k 0 ≡ 0

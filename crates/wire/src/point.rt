@@ -23,7 +23,8 @@ pub enum Side {
 impl Side {
     /// The letter by which a packet names the side.
     pub fn letter(self) -> u8
-        ensures { λ r. ⌜ r ≡ side-letter self ⌝ }
+        ensures value { λ r. ⌜ r ≡ side-letter self ⌝ }
+        ensures back { λ r. ⌜ side-of r ≡ self ⌝ }
     {
         match self {
             Side::Buy => b'B',
@@ -45,7 +46,8 @@ pub enum Reason {
 impl Reason {
     /// The letter by which a packet names the reason.
     pub fn letter(self) -> u8
-        ensures { λ r. ⌜ r ≡ reason-letter self ⌝ }
+        ensures value { λ r. ⌜ r ≡ reason-letter self ⌝ }
+        ensures back { λ r. ⌜ reason-of r ≡ self ⌝ }
     {
         match self {
             Reason::Order => b'O',

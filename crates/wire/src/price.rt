@@ -1,5 +1,6 @@
 //! Prices in billionths.
 ghost use mathlib.Core.Path.{_≡_};
+ghost use Prim.Native.Nat.{ℕ, _+_, _*_, _^_, _≤_};
 ghost use Rattle.wire.specs.Prices.{price};
 
 // The powers of ten from 10^0 to 10^9.
@@ -18,7 +19,8 @@ const POWERS: [u64; 10] = [
 
 /// A price in billionths: the numerator at that many decimals. A scale above 9, which no packet that is read has, counts as 9.
 pub fn billionths(numerator: u32, scale: u8) -> u64
-    ensures { λ r. ⌜ r ≡ price numerator scale ⌝ }
+    ensures value { λ r. ⌜ r ≡ price numerator scale ⌝ }
+    ensures rescaled { λ r. ⌜ ((k : ℕ) → scale + k ≤ 9 → price (numerator * 10 ^ k) (scale + k) ≡ r) ⌝ }
 {
     numerator as u64 * POWERS[9u8.saturating_sub(scale) as usize]
 }

@@ -4,6 +4,7 @@ ghost use Prim.Native.Nat.{ℕ, _+_, _-_, _%_, _<_, _≤_};
 ghost use lib.ListN.{length, drop};
 ghost use Rattle.wire.specs.Bytes.{first};
 ghost use Rattle.wire.specs.Reading.{told, told-message, told-header, header-in, kind-from, allowed, side, reason, wrong-in-full, wrong-in-delta, reset-in, unavailable-in, mapping-in, full-in, delta-in, body-in, reading};
+ghost use Rattle.wire.specs.Laws.{Judged};
 use crate::fault::ReadFault;
 use crate::fields::tail;
 use crate::fields::u16_at;
@@ -272,7 +273,8 @@ fn read_header<'a>(packet: &'a [u8]) -> Result<Header<'a>, ReadFault>
 
 /// What a packet says, or why it is refused.
 pub fn read<'a>(packet: &'a [u8]) -> Result<Packet<'a>, ReadFault>
-    ensures { λ r. ⌜ told r ≡ reading (now (packet .entry)) ⌝ }
+    ensures reads { λ r. ⌜ told r ≡ reading (now (packet .entry)) ⌝ }
+    ensures judged { λ r. ⌜ Judged (now (packet .entry)) (told r) ⌝ }
 {
     let header = read_header(packet)?;
     let message = read_body(header.kind, header.body)?;

@@ -2,7 +2,9 @@
 ghost use mathlib.Core.Path.{_≡_};
 ghost use mathlib.Core.List.{_++_};
 ghost use lib.ListN.{replicate};
-ghost use Rattle.wire.specs.Request.{source-right, request-head, request-answer, request-after};
+ghost use Rattle.wire.specs.Request.{source-right, request-head, request-answer, request-after, Requests};
+ghost use Rattle.std.specs.Results.{isOk};
+ghost use mathlib.Core.Bool.{true};
 use crate::fault::RequestFault;
 
 /// The bytes of a request.
@@ -92,6 +94,7 @@ pub fn write_request(
 ) -> Result<(), RequestFault>
     ensures answer { λ r. ⌜ r ≡ request-answer (now (buffer .entry)) (now (source .entry)) ⌝ }
     ensures after { λ _. ⌜ now (buffer .exit) ≡ request-after (now (buffer .entry)) time begin end (now (source .entry)) ⌝ }
+    ensures fields { λ r. ⌜ (isOk r ≡ true → Requests (now (buffer .exit)) time begin end (now (source .entry))) ⌝ }
 {
     if buffer.len() < REQUEST {
         return Err(RequestFault::Short);
