@@ -15,18 +15,18 @@ use shelf::Shelf;
 use shelf::TakeFault;
 
 mod slot;
+mod table;
 
 use slot::Slot;
-
-/// How many packets a slot shelf holds at most.
-pub const SLOTS: usize = 16;
+use table::SLOTS;
+use table::Table;
 
 /// A shelf of sixteen slots. Each packet costs one unit, the slot that it lies in.
 #[derive(Drop)]
 pub struct SlotShelf {
-    slots: [Slot; SLOTS],
-    ghost sixteen: { length slots ≡ 16 },
-    ghost sound: { slots-sound slots ≡ true },
+    slots: Table<Slot>,
+    ghost sixteen: { length (slots .items) ≡ 16 },
+    ghost sound: { slots-sound (slots .items) ≡ true },
 }
 
 // The lesser of two numbers, of which each may be absent.
@@ -43,7 +43,7 @@ fn lesser_of(a: Option<u32>, b: Option<u32>) -> Option<u32>
 impl SlotShelf {
     /// An empty shelf.
     pub fn new() -> SlotShelf
-        ensures { λ r. ⌜ slot-store (r .slots) ≡ empty-store ⌝ }
+        ensures { λ r. ⌜ slot-store (r .slots .items) ≡ empty-store ⌝ }
     {
         let slot = Slot {
             bytes: [0; LONGEST],
@@ -52,16 +52,18 @@ impl SlotShelf {
             occupied: false,
         };
         SlotShelf {
-            slots: [slot; SLOTS],
+            slots: Table {
+                items: [slot; SLOTS],
+            },
         }
     }
 
     // The first slot with no packet.
     fn free(&self) -> Option<usize>
-        ensures room { λ r. ⌜ isSome r ≡ ltb (used (slot-store (now (self .entry) .slots))) 16 ⌝ }
-        ensures found { λ r. ⌜ Cases r (Unit {0}) (Free-at (now (self .entry) .slots)) ⌝ }
+        ensures room { λ r. ⌜ isSome r ≡ ltb (used (slot-store (now (self .entry) .slots .items))) 16 ⌝ }
+        ensures found { λ r. ⌜ Cases r (Unit {0}) (Free-at (now (self .entry) .slots .items)) ⌝ }
     {
-        for (i, slot) in self.slots.iter().enumerate() {
+        for (i, slot) in self.slots.items.iter().enumerate() {
             if !slot.occupied {
                 return Some(i);
             }
@@ -71,10 +73,10 @@ impl SlotShelf {
 
     // The slot with the packet of a number.
     fn place(&self, number: u32) -> Option<usize>
-        ensures held { λ r. ⌜ isSome r ≡ has (slots-held (now (self .entry) .slots)) number ⌝ }
-        ensures found { λ r. ⌜ Cases r (Unit {0}) (Held-at (now (self .entry) .slots) number) ⌝ }
+        ensures held { λ r. ⌜ isSome r ≡ has (slots-held (now (self .entry) .slots .items)) number ⌝ }
+        ensures found { λ r. ⌜ Cases r (Unit {0}) (Held-at (now (self .entry) .slots .items) number) ⌝ }
     {
-        for (i, slot) in self.slots.iter().enumerate() {
+        for (i, slot) in self.slots.items.iter().enumerate() {
             if slot.holds(number) {
                 return Some(i);
             }
@@ -84,30 +86,30 @@ impl SlotShelf {
 
     // Puts a packet into a free slot.
     fn keep(&mut self, i: usize, number: u32, packet: &[u8])
-        requires free { ⌜ Free-at (now self .slots) i ⌝ }
-        requires absent { ⌜ has (slots-held (now self .slots)) number ≡ false ⌝ }
+        requires free { ⌜ Free-at (now self .slots .items) i ⌝ }
+        requires absent { ⌜ has (slots-held (now self .slots .items)) number ≡ false ⌝ }
         requires right { ⌜ right (length (now packet)) ≡ true ⌝ }
-        ensures { λ _. ⌜ slots-held (now (self .exit) .slots) ≡ insert number (now (packet .entry)) (slots-held (now (self .entry) .slots)) ⌝ }
+        ensures { λ _. ⌜ slots-held (now (self .exit) .slots .items) ≡ insert number (now (packet .entry)) (slots-held (now (self .entry) .slots .items)) ⌝ }
     {
-        self.slots[i].fill(number, packet);
+        self.slots.fill_at(i, number, packet);
     }
 
     // Moves the packet of a number to the front of the buffer, and answers its length.
     fn withdraw(&mut self, number: u32, buffer: &mut [u8]) -> Option<usize>
         requires { ⌜ 1500 ≤ length (now buffer) ⌝ }
-        ensures answer { λ r. ⌜ r ≡ length-of (lookup (slots-held (now (self .entry) .slots)) number) ⌝ }
-        ensures buffer { λ _. ⌜ now (buffer .exit) ≡ written (lookup (slots-held (now (self .entry) .slots)) number) (now (buffer .entry)) ⌝ }
-        ensures after { λ _. ⌜ slots-held (now (self .exit) .slots) ≡ remove number (slots-held (now (self .entry) .slots)) ⌝ }
+        ensures answer { λ r. ⌜ r ≡ length-of (lookup (slots-held (now (self .entry) .slots .items)) number) ⌝ }
+        ensures buffer { λ _. ⌜ now (buffer .exit) ≡ written (lookup (slots-held (now (self .entry) .slots .items)) number) (now (buffer .entry)) ⌝ }
+        ensures after { λ _. ⌜ slots-held (now (self .exit) .slots .items) ≡ remove number (slots-held (now (self .entry) .slots .items)) ⌝ }
     {
         match self.place(number) {
-            Some(i) => Some(self.slots[i].empty_into(buffer)),
+            Some(i) => Some(self.slots.empty_at(i, buffer)),
             None => None,
         }
     }
 }
 
 pub impl Shelf for SlotShelf as SlotShelfShelf {
-    ghost means = { λ s. slot-store (s .slots) };
+    ghost means = { λ s. slot-store (s .slots .items) };
 
     fn put(&mut self, number: u32, packet: &[u8]) -> Result<(), PutFault> {
         if packet.len() < SHORTEST || packet.len() > LONGEST {
@@ -136,7 +138,7 @@ pub impl Shelf for SlotShelf as SlotShelfShelf {
 
     fn least_above(&self, number: u32) -> Option<u32> {
         let mut least = None;
-        for slot in &self.slots {
+        for slot in &self.slots.items {
             least = lesser_of(least, slot.above(number));
         }
         least
@@ -152,7 +154,7 @@ pub impl Shelf for SlotShelf as SlotShelfShelf {
 
     fn used(&self) -> u32 {
         let mut count = 0;
-        for slot in &self.slots {
+        for slot in &self.slots.items {
             if slot.occupied {
                 count += 1;
             }
@@ -162,7 +164,7 @@ pub impl Shelf for SlotShelf as SlotShelfShelf {
 
     fn clear(&mut self) {
         for i in 0..SLOTS {
-            self.slots[i].occupied = false;
+            self.slots.items[i].occupied = false;
         }
     }
 }

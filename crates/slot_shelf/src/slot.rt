@@ -1,9 +1,10 @@
-//! Room for one packet.
+//! Room for one packet, and a table of such.
 ghost use mathlib.Core.Path.{_≡_};
 ghost use mathlib.Core.List.{_++_};
-ghost use Prim.Native.Nat.{_≤_};
-ghost use lib.ListN.{length, drop};
-ghost use Rattle.slot_shelf.specs.Slots.{filled, emptied, kept, holds-number, number-above};
+ghost use Prim.Native.Nat.{_≤_, _<_};
+ghost use lib.ListN.{length, drop, getD, set};
+ghost use Rattle.slot_shelf.specs.Slots.{filled, emptied, kept, holds-number, number-above, no-slot};
+use crate::table::Table;
 use shelf::LONGEST;
 
 /// Room for one packet, and whether a packet is in it.
@@ -55,5 +56,25 @@ impl Slot {
         } else {
             None
         }
+    }
+}
+
+impl Table<Slot> {
+    /// Puts a packet into one slot.
+    pub(crate) fn fill_at(&mut self, i: usize, number: u32, packet: &[u8])
+        requires { ⌜ i < 16 ⌝ ∗ ⌜ i < length (now self .items) ⌝ ∗ ⌜ length (now packet) ≤ 1500 ⌝ }
+        ensures { λ _. ⌜ now (self .exit) .items ≡ set (now (self .entry) .items) i (filled (getD (now (self .entry) .items) i no-slot) number (now (packet .entry))) ⌝ }
+    {
+        self.lend(i).fill(number, packet);
+    }
+
+    /// Moves the packet of one slot to the front of the buffer, and answers its length.
+    pub(crate) fn empty_at(&mut self, i: usize, buffer: &mut [u8]) -> usize
+        requires { ⌜ i < 16 ⌝ ∗ ⌜ i < length (now self .items) ⌝ ∗ ⌜ 1500 ≤ length (now buffer) ⌝ ∗ ⌜ getD (now self .items) i no-slot .len ≤ 1500 ⌝ }
+        ensures answer { λ r. ⌜ r ≡ length (kept (getD (now (self .entry) .items) i no-slot)) ⌝ }
+        ensures buffer { λ _. ⌜ now (buffer .exit) ≡ kept (getD (now (self .entry) .items) i no-slot) ++ drop (length (kept (getD (now (self .entry) .items) i no-slot))) (now (buffer .entry)) ⌝ }
+        ensures after { λ _. ⌜ now (self .exit) .items ≡ set (now (self .entry) .items) i (emptied (getD (now (self .entry) .items) i no-slot)) ⌝ }
+    {
+        self.lend(i).empty_into(buffer)
     }
 }

@@ -8,7 +8,7 @@ use Rattle.slot_shelf.proofs.SlotShelf.free.Needs as need
 
 pub returns-then-not-slot : need.returns-then-not-slot
 returns-then-not-slot c =
-    let ss = c .args .self .now .slots in
+    let ss = c .args .self .now .slots .items in
     let i = c .loop-i .i in
     let n : length ss ≡ 16 = c .args .self .now .sixteen in
     let l : i < length ss = omega arith in
@@ -17,7 +17,7 @@ returns-then-not-slot c =
 
 pub returns : need.returns
 returns c =
-    let ss = c .args .self .now .slots in
+    let ss = c .args .self .now .slots .items in
     let n : length ss ≡ 16 = c .args .self .now .sixteen in
     let u = units-all ss (λ k l. c .loop-i .inv k (omega arith)) in
     record { room = sym (le-ltb _ 16 (omega arith)); found = tt }

@@ -9,7 +9,7 @@ use Rattle.slot_shelf.proofs.SlotShelf.place.Needs as need
 
 pub returns-then-holds : need.returns-then-holds
 returns-then-holds c =
-    let ss = c .args .self .now .slots in
+    let ss = c .args .self .now .slots .items in
     let i = c .loop-i .i in
     let n : length ss ≡ 16 = c .args .self .now .sixteen in
     let l : i < length ss = omega arith in
@@ -18,6 +18,6 @@ returns-then-holds c =
 
 pub returns : need.returns
 returns c =
-    let ss = c .args .self .now .slots in
+    let ss = c .args .self .now .slots .items in
     let n : length ss ≡ 16 = c .args .self .now .sixteen in
     record { held = sym (has-none ss (c .args .number) (λ k l. c .loop-i .inv k (omega arith))); found = tt }

@@ -6,4 +6,4 @@ use Rattle.slot_shelf.specs.Slots.{no-slot}
 use Rattle.slot_shelf.proofs.SlotShelfShelf.clear.Given as given
 
 abbrev pub Inv-loop-i : given.InvT-loop-i
-Inv-loop-i l = (k : ℕ) → k < l .i → getD (l .self .slots) k no-slot .occupied ≡ false
+Inv-loop-i l = (k : ℕ) → k < l .i → getD (l .self .slots .items) k no-slot .occupied ≡ false

@@ -9,7 +9,7 @@ use Rattle.slot_shelf.proofs.SlotShelfShelf.least_above.Needs as need
 
 pub loop-slot-again : need.loop-slot-again
 loop-slot-again c =
-    let ss = c .args .self .now .slots in
+    let ss = c .args .self .now .slots .items in
     let i = c .loop-slot .slot-index in
     let k = c .args .number in
     let n : length ss ≡ 16 = c .args .self .now .sixteen in
@@ -19,6 +19,6 @@ loop-slot-again c =
 
 pub returns : need.returns
 returns c =
-    let ss = c .args .self .now .slots in
+    let ss = c .args .self .now .slots .items in
     let n : length ss ≡ 16 = c .args .self .now .sixteen in
     sym (c .loop-slot .inv ∙ above-end ss (c .loop-slot .slot-index) (c .args .number) (c .loop-slot .least) (omega arith))

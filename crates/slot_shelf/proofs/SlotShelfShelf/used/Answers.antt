@@ -8,7 +8,7 @@ use Rattle.slot_shelf.proofs.SlotShelfShelf.used.Needs.{then-slot, else-slot}
 
 pub loop-slot-again : need.loop-slot-again
 loop-slot-again c =
-    let ss = c .args .self .now .slots in
+    let ss = c .args .self .now .slots .items in
     let i = c .loop-slot .slot-index in
     let n : length ss ≡ 16 = c .args .self .now .sixteen in
     let l : i < length ss = omega arith in
@@ -19,7 +19,7 @@ loop-slot-again c =
 
 pub returns : need.returns
 returns c =
-    let ss = c .args .self .now .slots in
+    let ss = c .args .self .now .slots .items in
     let n : length ss ≡ 16 = c .args .self .now .sixteen in
     let e = units-end ss (c .loop-slot .slot-index) (omega arith) in
     omega arith
