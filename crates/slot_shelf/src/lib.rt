@@ -88,7 +88,7 @@ impl SlotShelf {
     fn keep(&mut self, i: usize, number: u32, packet: &[u8])
         requires free { ⌜ Free-at (now self .slots .items) i ⌝ }
         requires absent { ⌜ has (slots-held (now self .slots .items)) number ≡ false ⌝ }
-        requires right { ⌜ right (length (now packet)) ≡ true ⌝ }
+        requires sized { ⌜ right (length (now packet)) ≡ true ⌝ }
         ensures { λ _. ⌜ slots-held (now (self .exit) .slots .items) ≡ insert number (now (packet .entry)) (slots-held (now (self .entry) .slots .items)) ⌝ }
     {
         self.slots.fill_at(i, number, packet);

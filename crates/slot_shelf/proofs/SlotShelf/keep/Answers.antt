@@ -15,7 +15,7 @@ ghost-self c =
       ap length (c .fill-at .ensures) ∙ length-set ss i _ ∙ c .args .self .now .sixteen,
       (
         ap slots-sound (c .fill-at .ensures)
-            ∙ sound-filled ss i k (c .args .packet .now) (getD ss i no-slot) (c .pre .free .0) (c .pre .free .1) (c .pre .absent) (c .pre .right) w (c .args .self .now .sound),
+            ∙ sound-filled ss i k (c .args .packet .now) (getD ss i no-slot) (c .pre .free .0) (c .pre .free .1) (c .pre .absent) (c .pre .sized) w (c .args .self .now .sound),
         tt,
       ),
     )
