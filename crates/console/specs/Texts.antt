@@ -79,26 +79,38 @@ heading-of (delta index scale ps) q = update-text (codes "delta") q index scale 
 abbrev pub heading : Pkt → List ℕ
 heading q = heading-of (q .message) q
 
--- the text of each point, one behind the other, up to an index
+abbrev pub full-text : ℕ → Option PricePoint → List ℕ
+full-text scale None = []
+full-text scale (Some p) = level-text scale p
+
+abbrev pub change-text : ℕ → Option DeltaPoint → List ℕ
+change-text scale None = []
+change-text scale (Some p) = delta-text scale p
+
+-- how many points a message has
+abbrev pub point-count : Msg → ℕ
+point-count (reset next) = 0
+point-count (unavailable b e) = 0
+point-count mapping = 0
+point-count (full index scale ps) = length ps / 12
+point-count (delta index scale ps) = length ps / 28
+
+-- the text of the point at an index
+abbrev pub point-text : Msg → ℕ → List ℕ
+point-text (reset next) i = []
+point-text (unavailable b e) i = []
+point-text mapping i = []
+point-text (full index scale ps) i = full-text scale (full-point ps i)
+point-text (delta index scale ps) i = change-text scale (delta-point ps i)
+
+-- a line for each index below a bound
 abbrev pub lines : (ℕ → List ℕ) → ℕ → List ℕ
 lines f zero = []
-lines f (suc n) = lines f n ++ f n
-
-abbrev pub full-line : ℕ → Option PricePoint → List ℕ
-full-line scale None = []
-full-line scale (Some p) = level-text scale p ++ codes "\n"
-
-abbrev pub delta-line : ℕ → Option DeltaPoint → List ℕ
-delta-line scale None = []
-delta-line scale (Some p) = delta-text scale p ++ codes "\n"
+lines f (suc n) = lines f n ++ (f n ++ codes "\n")
 
 -- a line for each point of a message
 abbrev pub points-text : Msg → List ℕ
-points-text (reset next) = []
-points-text (unavailable b e) = []
-points-text mapping = []
-points-text (full index scale ps) = lines (λ i. full-line scale (full-point ps i)) (length ps / 12)
-points-text (delta index scale ps) = lines (λ i. delta-line scale (delta-point ps i)) (length ps / 28)
+points-text m = lines (point-text m) (point-count m)
 
 -- the answer to the reading of a packet, each line ended
 abbrev pub reading-text : Result Pkt ReadFault → List ℕ
