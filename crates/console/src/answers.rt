@@ -7,7 +7,12 @@ ghost use Rattle.wire.specs.Reading.{reading, model};
 ghost use Rattle.console.specs.Texts.{point-count, point-text, points-text, reading-text};
 ghost use Rattle.console.specs.Commands.{command-in};
 ghost use Rattle.console.specs.Answers.{answer-to};
-
+use crate::command::Command;
+use crate::command::parse;
+use crate::text::delta_text;
+use crate::text::fault_text;
+use crate::text::level_text;
+use crate::text::packet_text;
 use std::alloc::AllocError;
 use std::alloc::Global;
 use wire::Message;
@@ -16,13 +21,6 @@ use wire::delta_point;
 use wire::full_count;
 use wire::full_point;
 use wire::read;
-
-use crate::command::Command;
-use crate::command::parse;
-use crate::text::delta_text;
-use crate::text::fault_text;
-use crate::text::level_text;
-use crate::text::packet_text;
 
 fn point_count(message: Message<'_>) -> usize
     ensures { λ r. ⌜ r ≡ point-count (model (message .entry)) ⌝ }

@@ -3,10 +3,8 @@ ghost use mathlib.Core.Path.{_≡_};
 ghost use mathlib.Core.List.{_++_};
 ghost use Rattle.std.specs.Of.String.{string-bytes};
 ghost use Rattle.std.specs.Vec.{made};
-
 ghost use Rattle.wire.specs.Reading.{packet-model};
 ghost use Rattle.console.specs.Texts.{price-text, side-text, reason-text, level-text, delta-text, fault-text, update-text, heading};
-
 use std::alloc::AllocError;
 use std::alloc::Global;
 use wire::DeltaPoint;
@@ -31,7 +29,17 @@ words are parted by blanks. A line that can't be read as a command is answered: 
 ";
 
 // Nine digits, the most significant first.
-const PLACES: [u64; 9] = [100_000_000, 10_000_000, 1_000_000, 100_000, 10_000, 1_000, 100, 10, 1];
+const PLACES: [u64; 9] = [
+    100_000_000,
+    10_000_000,
+    1_000_000,
+    100_000,
+    10_000,
+    1_000,
+    100,
+    10,
+    1,
+];
 
 /// A price in billionths, as dollars with nine decimals.
 pub fn price_text(heap: Global, billionths: u64) -> Result<String, AllocError>
@@ -67,7 +75,7 @@ fn reason_text(reason: Reason) -> &'static str
 }
 
 // The side, price, volume and count of orders of a point.
-pub fn level_text(heap: Global, point: PricePoint, scale: u8) -> Result<String, AllocError>
+pub(crate) fn level_text(heap: Global, point: PricePoint, scale: u8) -> Result<String, AllocError>
     ensures { λ r. ⌜ made r (λ t. string-bytes t ≡ level-text scale point) ⌝ }
 {
     let side = side_text(point.side);
@@ -78,7 +86,7 @@ pub fn level_text(heap: Global, point: PricePoint, scale: u8) -> Result<String, 
 }
 
 // The level of a delta's point, and what changed it.
-pub fn delta_text(heap: Global, point: DeltaPoint, scale: u8) -> Result<String, AllocError>
+pub(crate) fn delta_text(heap: Global, point: DeltaPoint, scale: u8) -> Result<String, AllocError>
     ensures { λ r. ⌜ made r (λ t. string-bytes t ≡ delta-text scale point) ⌝ }
 {
     let level = level_text(heap, point.level, scale)?;
@@ -100,13 +108,23 @@ pub fn fault_text(heap: Global, fault: ReadFault) -> Result<String, AllocError>
 }
 
 // A full update or a delta, in one line.
-fn update_text(heap: Global, kind: &str, packet: &Packet<'_>, index: u16, scale: u8, count: usize) -> Result<String, AllocError>
+fn update_text(
+    heap: Global,
+    kind: &str,
+    packet: &Packet<'_>,
+    index: u16,
+    scale: u8,
+    count: usize,
+) -> Result<String, AllocError>
     ensures { λ r. ⌜ made r (λ t. string-bytes t ≡ update-text (now (kind .entry)) (packet-model (now (packet .entry))) index scale count) ⌝ }
 {
     let number = packet.number;
     let flag = packet.flag;
     let link = packet.link;
-    format!(heap, "{kind} number={number} flag={flag} link={link} index={index} scale={scale} points={count}")
+    format!(
+        heap,
+        "{kind} number={number} flag={flag} link={link} index={index} scale={scale} points={count}"
+    )
 }
 
 /// What a packet is, in one line, without its points.
@@ -116,9 +134,20 @@ pub fn packet_text(heap: Global, packet: &Packet<'_>) -> Result<String, AllocErr
     let number = packet.number;
     match packet.message {
         Message::Reset { next } => format!(heap, "reset number={number} next={next}"),
-        Message::Unavailable { begin, end } => format!(heap, "unavailable number={number} begin={begin} end={end}"),
+        Message::Unavailable { begin, end } => format!(
+            heap,
+            "unavailable number={number} begin={begin} end={end}"
+        ),
         Message::Mapping => format!(heap, "mapping number={number}"),
-        Message::Full { index, scale, points } => update_text(heap, "full", packet, index, scale, full_count(points)),
-        Message::Delta { index, scale, points } => update_text(heap, "delta", packet, index, scale, delta_count(points)),
+        Message::Full {
+            index,
+            scale,
+            points,
+        } => update_text(heap, "full", packet, index, scale, full_count(points)),
+        Message::Delta {
+            index,
+            scale,
+            points,
+        } => update_text(heap, "delta", packet, index, scale, delta_count(points)),
     }
 }

@@ -18,6 +18,13 @@ fn run_script<B: BufRead + Drop>(rt: &LibcRuntime, script: B) -> Result<(), AnyE
     Ok(())
 }
 
+fn open_script(rt: &LibcRuntime, name: &str) -> Result<File, AnyError> {
+    match File::open(rt, name) {
+        Ok(file) => Ok(file),
+        Err(fault) => Err(format!(rt.alloc(), "{name}: {fault}")?.into()),
+    }
+}
+
 fn run(rt: &LibcRuntime) -> Result<(), AnyError> {
     let mut args = env::args(rt)?;
     let _ = args.next();
@@ -27,7 +34,7 @@ fn run(rt: &LibcRuntime) -> Result<(), AnyError> {
             rt.print(HELP)?;
             Ok(())
         }
-        Some(file) => run_script(rt, BufReader::new(File::open(rt, file.as_str())?)),
+        Some(name) => run_script(rt, BufReader::new(open_script(rt, name.as_str())?)),
     }
 }
 

@@ -35,10 +35,10 @@ pub impl<S: Shelf> Shelf for Quota<S> as QuotaShelf {
     ghost means = { λ q. capped (q .limit) (S·Shelf .means (q .below)) };
 
     fn put(&mut self, number: u32, packet: &[u8]) -> Result<(), PutFault> {
-        let cost = self.below.price(packet.len());
-        if cost > 0 && !self.below.holds(number) {
-            let most = self.limit.max(self.below.price(LONGEST));
-            if self.below.used() as u64 + cost as u64 > most as u64 {
+        let cost = self.price(packet.len());
+        if cost > 0 && !self.holds(number) {
+            let most = self.limit.max(self.price(LONGEST));
+            if self.used() as u64 + cost as u64 > most as u64 {
                 return Err(PutFault::Full);
             }
         }

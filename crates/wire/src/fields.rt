@@ -5,7 +5,7 @@ ghost use lib.ListN.{length, drop};
 ghost use Rattle.wire.specs.Bytes.{be16, be32};
 
 // The two bytes at an offset.
-pub fn u16_at(bytes: &[u8], at: usize) -> u16
+pub(crate) fn u16_at(bytes: &[u8], at: usize) -> u16
     requires { ⌜ at + 2 ≤ length (now bytes) ⌝ }
     ensures { λ r. ⌜ r ≡ be16 (now (bytes .entry)) at ⌝ }
 {
@@ -13,7 +13,7 @@ pub fn u16_at(bytes: &[u8], at: usize) -> u16
 }
 
 // The four bytes at an offset.
-pub fn u32_at(bytes: &[u8], at: usize) -> u32
+pub(crate) fn u32_at(bytes: &[u8], at: usize) -> u32
     requires { ⌜ at + 4 ≤ length (now bytes) ⌝ }
     ensures { λ r. ⌜ r ≡ be32 (now (bytes .entry)) at ⌝ }
 {
@@ -21,7 +21,7 @@ pub fn u32_at(bytes: &[u8], at: usize) -> u32
 }
 
 // The bytes from an offset on.
-pub fn tail(bytes: &[u8], at: usize) -> &[u8]
+pub(crate) fn tail(bytes: &[u8], at: usize) -> &[u8]
     requires { ⌜ at ≤ length (now bytes) ⌝ }
     ensures value { λ r. ⌜ now r ≡ drop at (now (bytes .entry)) ⌝ }
     ensures len { λ r. ⌜ length (now r) ≡ length (now (bytes .entry)) - at ⌝ }

@@ -9,9 +9,9 @@ use crate::fields::u32_at;
 use crate::price::billionths;
 
 /// The bytes of a point of a full update.
-pub const FULL_POINT: usize = 12;
+pub(crate) const FULL_POINT: usize = 12;
 /// The bytes of a point of a delta.
-pub const DELTA_POINT: usize = 28;
+pub(crate) const DELTA_POINT: usize = 28;
 
 /// The side of a level.
 #[derive(Clone, Copy, PartialEq, Eq, Debug)]
