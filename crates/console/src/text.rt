@@ -1,6 +1,7 @@
 //! The text of answers.
 ghost use mathlib.Core.Path.{_≡_};
 ghost use mathlib.Core.List.{_++_};
+ghost use Prim.Native.Nat.{_+_, _/_, _%_, _<_};
 ghost use Rattle.std.specs.Of.String.{string-bytes};
 ghost use Rattle.std.specs.Vec.{made};
 ghost use Rattle.wire.specs.Reading.{packet-model};
@@ -41,6 +42,13 @@ const PLACES: [u64; 9] = [
     1,
 ];
 
+fn digit_at(n: u64, place: u64) -> u8
+    requires { ⌜ 0 < place ⌝ }
+    ensures { λ r. ⌜ r ≡ 48 + n / place % 10 ⌝ }
+{
+    b'0' + (n / place % 10) as u8
+}
+
 /// A price in billionths, as dollars with nine decimals.
 pub fn price_text(heap: Global, billionths: u64) -> Result<String, AllocError>
     ensures { λ r. ⌜ made r (λ t. string-bytes t ≡ price-text billionths) ⌝ }
@@ -48,8 +56,7 @@ pub fn price_text(heap: Global, billionths: u64) -> Result<String, AllocError>
     let dollars = billionths / 1_000_000_000;
     let mut text = format!(heap, "{dollars}.")?;
     for place in PLACES {
-        let digit = billionths / place % 10;
-        text.push((b'0' + digit as u8) as char)?;
+        text.push(digit_at(billionths, place) as char)?;
     }
     Ok(text)
 }
@@ -102,8 +109,8 @@ pub fn fault_text(heap: Global, fault: ReadFault) -> Result<String, AllocError>
 {
     let number = fault.number();
     match fault.offset() {
-        Some(offset) => format!(heap, "refused {number} by reader offset={offset}"),
-        None => format!(heap, "refused {number} by reader"),
+        Some(offset) => Ok(format!(heap, "refused {number} by reader offset={offset}")?),
+        None => Ok(format!(heap, "refused {number} by reader")?),
     }
 }
 
