@@ -1,0 +1,71 @@
+-- What a search of the chain of packets finds.
+use mathlib.Core.Path.{_≡_, refl, sym, _∙_, ap, subst}
+use mathlib.Core.List.{List, [], _∷_, _++_}
+use mathlib.Core.Bool.{true}
+use Prim.Native.Nat.{ℕ, _+_, _-_, _/_, _≤_, _<_}
+use native.Mathlib.Omega.{arith}
+use lib.ListN.{length}
+use lib.Dec.{eqb}
+use Rattle.std.proofs.shelf.Tests.{eqb-true, both-ways}
+use Rattle.std.proofs.shelf.Ways.{tells}
+use Rattle.std.specs.declared.option.Option.the-variants.{Some}
+use Rattle.chain_shelf.specs.Records.{mem, records, link, next, number, size, span, walk, cnt, heads, Inside, Below, under, rest, last}
+use Rattle.shelf.specs.Store.{Packets, Sized, has, lookup}
+use Rattle.chain_shelf.specs.Chain.{pack, layout, packets, tally, packs, held, Seg, Sound}
+use Rattle.chain_shelf.proofs.Fills.{cnt-first}
+use Rattle.chain_shelf.proofs.Frames.{heads-tally, pack-length}
+use Rattle.chain_shelf.proofs.Segs.{first, seg-first, seg-nonzero, below-from}
+use Rattle.chain_shelf.proofs.Places.{place, at-first, has-place, lookup-place}
+use Rattle.chain_shelf.proofs.Puts.{halves}
+
+pub heads-below : (b : List ℕ) → Sound b → Below (records b) (heads b)
+heads-below b s = below-from (records b) (heads b) (λ q l. let t = heads-tally (mem b) (heads b) q in s .inside q (omega arith) .1)
+
+split-chain : (b : List ℕ) (k : ℕ) → Sound b → Seg (next (mem b)) 0 (under (mem b) k (heads b) ++ rest (mem b) k (heads b))
+split-chain b k s = subst (Seg (next (mem b)) 0) (sym (place (mem b) k (heads b))) (s .chain)
+
+module _ (b : List ℕ) (k at : ℕ) (s : Sound b) (e : at ≡ next (mem b) (last 0 (under (mem b) k (heads b)))) where
+  at-is : at ≡ first (rest (mem b) k (heads b))
+  at-is = e ∙ seg-first (next (mem b)) 0 (under (mem b) k (heads b)) (rest (mem b) k (heads b)) (split-chain b k s)
+
+  pub none-left : at ≡ 0 → rest (mem b) k (heads b) ≡ []
+  none-left z = go (rest (mem b) k (heads b)) refl
+    where
+      go : (C : List ℕ) → rest (mem b) k (heads b) ≡ C → rest (mem b) k (heads b) ≡ []
+      go [] q = q
+      go (h ∷ C) q = absurd (seg-nonzero (next (mem b)) 0 (under (mem b) k (heads b)) h C (subst (λ t. Seg (next (mem b)) 0 (under (mem b) k (heads b) ++ t)) q (split-chain b k s)) (sym (at-is ∙ ap first q) ∙ z))
+
+  pub some-left : (at ≡ 0 → ⊥) → (B : List ℕ) × (rest (mem b) k (heads b) ≡ at ∷ B)
+  some-left n = go (rest (mem b) k (heads b)) refl
+    where
+      go : (C : List ℕ) → rest (mem b) k (heads b) ≡ C → (B : List ℕ) × (rest (mem b) k (heads b) ≡ at ∷ B)
+      go [] q = absurd (n (at-is ∙ ap first q))
+      go (h ∷ C) q = (C, q ∙ ap (λ t. t ∷ C) (sym (at-is ∙ ap first q)))
+
+  pub present : has (held b) k ≡ true → (B : List ℕ) × (rest (mem b) k (heads b) ≡ at ∷ B) × (number (mem b) at ≡ k)
+  present p = go (rest (mem b) k (heads b)) refl
+    where
+      go : (C : List ℕ) → rest (mem b) k (heads b) ≡ C → (B : List ℕ) × (rest (mem b) k (heads b) ≡ at ∷ B) × (number (mem b) at ≡ k)
+      go [] q = absurd (both-ways (has (held b) k) (has-place (mem b) k 0 (heads b) (s .rising) ∙ ap (at-first (mem b) k) q) p)
+      go (h ∷ C) q =
+          let a : at ≡ h = at-is ∙ ap first q in
+          let t : eqb k (number (mem b) h) ≡ true = sym (has-place (mem b) k 0 (heads b) (s .rising) ∙ ap (at-first (mem b) k) q) ∙ p in
+          (C, q ∙ ap (λ t. t ∷ C) (sym a), ap (number (mem b)) a ∙ sym (eqb-true k (number (mem b) h) t))
+
+-- the packet at a place
+module _ (b : List ℕ) (k at : ℕ) (B : List ℕ) (s : Sound b) (is : rest (mem b) k (heads b) ≡ at ∷ B) where
+  counted : (q : ℕ) → tally q (packs b) ≡ tally q (layout (mem b) (under (mem b) k (heads b))) + (cnt q (walk (link (mem b)) (span 10 (size (mem b) at)) at) + tally q (layout (mem b) B))
+  counted q = halves b k q ∙ ap (λ t. tally q (layout (mem b) (under (mem b) k (heads b))) + tally q (layout (mem b) t)) is
+
+  pub walk-inside : Inside (records b) (walk (link (mem b)) (span 10 (size (mem b) at)) at)
+  walk-inside q l = let c = counted q in s .inside q (omega arith)
+
+  pub at-inside : (0 < at) × (at < records b)
+  at-inside = walk-inside at (cnt-first at (walk (link (mem b)) ((size (mem b) at - 54 + 61) / 62) (link (mem b) at)))
+
+sized-lookup : (h : Packets) (k : ℕ) (p : List ℕ) → Sized h → lookup h k ≡ Some p → length p ≤ 1500
+sized-lookup [] k p s e = absurd (let z : _≡_ {A = ℕ} 0 1 = cc in omega arith)
+sized-lookup (x ∷ h) k p s e = let i = sized-lookup h k p (s .2) in let l = s .1 in grind (arith, tells)
+
+pub size-most : (b : List ℕ) (k at : ℕ) (B : List ℕ) → Sound b → rest (mem b) k (heads b) ≡ at ∷ B → number (mem b) at ≡ k → size (mem b) at ≤ 1500
+size-most b k at B s is n = let e = pack-length (mem b) at in let l = sized-lookup (held b) k (pack (mem b) at .1) (s .sized) (lookup-place (mem b) k (heads b) at B is n) in omega arith

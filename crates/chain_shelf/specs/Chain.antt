@@ -1,0 +1,90 @@
+-- What the bytes of a region hold, and when they are sound.
+use mathlib.Core.Path.{_≡_}
+use mathlib.Core.Logic.{_⊎_}
+use mathlib.Core.List.{List, [], _∷_}
+use Prim.Native.Nat.{ℕ, _+_, _-_, _*_, _/_, _≤_, _<_}
+use lib.ListN.{length}
+use Rattle.chain_shelf.specs.Records.{Mem, mem, records, link, next, number, size, span, walk, gather, cnt, heads, ahead, under, last}
+use Rattle.shelf.specs.Store.{Packets, Store, units, Up, Sized}
+
+-- a packet: number, bytes, records
+abbrev pub Pack : Type 0
+Pack = ℕ × List ℕ × List ℕ
+
+abbrev pub pack : Mem → ℕ → Pack
+pack m h = (number m h, gather m (span 10 (size m h)) h 10 (size m h), walk (link m) (span 10 (size m h)) h)
+
+abbrev pub layout : Mem → List ℕ → List Pack
+layout m [] = []
+layout m (h ∷ hs) = pack m h ∷ layout m hs
+
+abbrev pub packets : List Pack → Packets
+packets [] = []
+packets (x ∷ l) = (x .0, x .1) ∷ packets l
+
+-- how often a record is among those of packets
+abbrev pub tally : ℕ → List Pack → ℕ
+tally q [] = 0
+tally q (x ∷ l) = cnt q (x .2) + tally q l
+
+abbrev pub packs : List ℕ → List Pack
+packs b = layout (mem b) (heads b)
+
+abbrev pub held : List ℕ → Packets
+held b = packets (packs b)
+
+abbrev pub spent : List ℕ → ℕ
+spent b = units (span 10) (held b)
+
+abbrev pub free : List ℕ → List ℕ
+free b = walk (link (mem b)) (records b - 1 - spent b) (link (mem b) 0)
+
+-- from q, through hs, to 0
+abbrev pub Seg : (ℕ → ℕ) → ℕ → List ℕ → Type 0
+Seg g q [] = g q ≡ 0
+Seg g q (h ∷ hs) = (g q ≡ h) × (h ≡ 0 → ⊥) × Seg g h hs
+
+pub record Sound (b : List ℕ) : Type 0 where
+  pub whole : length b ≡ 64 * records b
+  pub least : 26 ≤ records b
+  pub most : records b ≤ 65535
+  pub chain : Seg (next (mem b)) 0 (heads b)
+  pub once : (q : ℕ) → tally q (packs b) + cnt q (free b) ≤ 1
+  pub inside : (q : ℕ) → 0 < tally q (packs b) + cnt q (free b) → (0 < q) × (q < records b)
+  pub room : spent b ≤ records b - 1
+  pub rising : Up 0 (held b)
+  pub sized : Sized (held b)
+
+abbrev pub store : List ℕ → Store
+store b = record { held = held b; total = records b - 1; price = span 10 }
+
+-- the same, as a fact that a struct can keep
+abbrev pub Kept : List ℕ → Type 0
+Kept b = ∥ Sound b ∥₁
+
+-- what laying a packet in changes: its records are the first free ones, and it stands behind the packet at p
+pub record LaidIn (m w : Mem) (p k : ℕ) (xs : List ℕ) : Type 0 where
+  pub prev : next w p ≡ link m 0
+  pub next : next w (link m 0) ≡ next m p
+  pub number : number w (link m 0) ≡ k
+  pub size : size w (link m 0) ≡ length xs
+  pub bytes : gather w (span 10 (length xs)) (link m 0) 10 (length xs) ≡ xs
+  pub free : link w 0 ≡ ahead (link m) (span 10 (length xs)) (link m 0)
+  pub links : (s : ℕ) → (s ≡ 0 → ⊥) → link w s ≡ link m s
+  pub others : (s q : ℕ) → q < 64 → cnt s (walk (link m) (span 10 (length xs)) (link m 0)) ≡ 0 → (s ≡ 0 → (2 ≤ q) × (q < 4)) → (s ≡ p → (q < 2) ⊎ (4 ≤ q)) → w s q ≡ m s q
+
+-- what taking the packet behind the one at p out changes: its first record is h, its last one l
+pub record TakenOut (m w : Mem) (p h l : ℕ) : Type 0 where
+  pub prev : next w p ≡ next m h
+  pub free : link w 0 ≡ h
+  pub tail : link w l ≡ link m 0
+  pub others : (s q : ℕ) → q < 64 → (s ≡ 0 → (2 ≤ q) × (q < 4)) → (s ≡ l → 2 ≤ q) → (s ≡ p → (q < 2) ⊎ (4 ≤ q)) → w s q ≡ m s q
+
+-- what an empty shelf means in a region of n bytes
+abbrev pub fresh : ℕ → Store
+fresh n = record { held = []; total = n / 64 - 1; price = span 10 }
+
+-- p is the first record of the last packet whose number is below k, or 0
+pub record Before (b : List ℕ) (k p : ℕ) : Type 0 where
+  pub is : p ≡ last 0 (under (mem b) k (heads b))
+  pub within : p < records b

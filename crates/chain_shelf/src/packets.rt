@@ -1,0 +1,172 @@
+//! Packets in the chains: laid in, found, taken out.
+ghost use mathlib.Core.Path.{_≡_};
+ghost use mathlib.Core.List.{[]};
+ghost use mathlib.Core.Bool.{true, false, cond};
+ghost use mathlib.Core.Logic.{_⊎_};
+ghost use Prim.Native.Nat.{ℕ, _+_, _-_, _*_, _<_, _≤_, _/_, _%_};
+ghost use lib.ListN.{length};
+ghost use Rattle.std.specs.declared.option.Option.the-variants.{Some};
+ghost use Rattle.chain_shelf.specs.Records.{mem, records, link, next, number as number-of, size as size-of, span, walk, cnt, Apart, Inside};
+ghost use Rattle.shelf.specs.Store.{has, insert, remove, lookup, above, length-of, written, right};
+ghost use Rattle.chain_shelf.specs.Chain.{held, spent, Kept, Before, LaidIn, TakenOut};
+use crate::records::BODY;
+use crate::records::LINK;
+use crate::records::NEXT;
+use crate::records::NUMBER;
+use crate::records::SIZE;
+use crate::records::copy;
+use crate::records::fill;
+use crate::records::number_at;
+use crate::records::read;
+use crate::records::write;
+use crate::region::RECORD;
+
+/// Writes what a packet's first record has before its bytes, but for the link.
+fn head(bytes: &mut [u8], r: usize, after: usize, number: u32, size: usize)
+    requires at { ⌜ r < records (now bytes) ⌝ }
+    requires after { ⌜ after < 65536 ⌝ }
+    requires size { ⌜ size < 65536 ⌝ }
+    ensures after { λ _. ⌜ next (mem (now (bytes .exit))) r ≡ after ⌝ }
+    ensures number { λ _. ⌜ number-of (mem (now (bytes .exit))) r ≡ number ⌝ }
+    ensures size { λ _. ⌜ size-of (mem (now (bytes .exit))) r ≡ size ⌝ }
+    ensures others { λ _. ⌜ ((s q : ℕ) → q < 64 → (s ≡ r → (q < 2) ⊎ (10 ≤ q)) → mem (now (bytes .exit)) s q ≡ mem (now (bytes .entry)) s q) ⌝ }
+{
+    write(bytes, r, NEXT, after);
+    write(bytes, r, NUMBER, (number % 65536) as usize);
+    write(bytes, r, NUMBER + 2, (number / 65536) as usize);
+    write(bytes, r, SIZE, size);
+}
+
+/// Lays a packet into the first free records, behind the packet whose first record is `prev`.
+fn lay_packet(bytes: &mut [u8], prev: usize, number: u32, packet: &[u8])
+    requires prev { ⌜ prev < records (now bytes) ⌝ }
+    requires size { ⌜ length (now packet) ≤ 1500 ⌝ }
+    requires apart { ⌜ Apart (walk (link (mem (now bytes))) (span 10 (length (now packet))) (link (mem (now bytes)) 0)) ⌝ }
+    requires inside { ⌜ Inside (records (now bytes)) (walk (link (mem (now bytes))) (span 10 (length (now packet))) (link (mem (now bytes)) 0)) ⌝ }
+    requires out { ⌜ cnt prev (walk (link (mem (now bytes))) (span 10 (length (now packet))) (link (mem (now bytes)) 0)) ≡ 0 ⌝ }
+    ensures { λ _. ⌜ LaidIn (mem (now (bytes .entry))) (mem (now (bytes .exit))) prev number (now (packet .entry)) ⌝ }
+{
+    let first = read(bytes, 0, LINK);
+    let after = read(bytes, prev, NEXT);
+    head(bytes, first, after, number, packet.len());
+    let free = fill(bytes, first, BODY, packet);
+    write(bytes, 0, LINK, free);
+    write(bytes, prev, NEXT, first);
+}
+
+/// Takes a packet out of the chain, behind the one at `prev`, and frees its records.
+fn unlink(bytes: &mut [u8], prev: usize, first: usize, last: usize)
+    requires most { ⌜ records (now bytes) ≤ 65535 ⌝ }
+    requires prev { ⌜ prev < records (now bytes) ⌝ }
+    requires first { ⌜ first < records (now bytes) ⌝ }
+    requires last { ⌜ last < records (now bytes) ⌝ }
+    requires some { ⌜ 0 < last ⌝ }
+    ensures { λ _. ⌜ TakenOut (mem (now (bytes .entry))) (mem (now (bytes .exit))) prev first last ⌝ }
+{
+    let after = read(bytes, first, NEXT);
+    let free = read(bytes, 0, LINK);
+    write(bytes, prev, NEXT, after);
+    write(bytes, last, LINK, free);
+    write(bytes, 0, LINK, first);
+}
+
+/// Whether the packet behind the one at `prev` has the number.
+pub fn stands_behind(bytes: &[u8], prev: usize, number: u32) -> bool
+    requires kept { ⌜ Kept (now bytes) ⌝ }
+    requires prev { ⌜ Before (now bytes) number prev ⌝ }
+    ensures { λ r. ⌜ r ≡ has (held (now (bytes .entry))) number ⌝ }
+{
+    let at = read(bytes, prev, NEXT);
+    at != 0 && number_at(bytes, at) == number as u64
+}
+
+/// The number of the packet behind the one at `prev`: the least above the given number.
+pub fn number_behind(bytes: &[u8], prev: usize, number: u32) -> Option<u32>
+    requires kept { ⌜ Kept (now bytes) ⌝ }
+    requires prev { ⌜ Before (now bytes) (number + 1) prev ⌝ }
+    ensures { λ r. ⌜ r ≡ above (held (now (bytes .entry))) number ⌝ }
+{
+    let at = read(bytes, prev, NEXT);
+    if at == 0 {
+        return None;
+    }
+    Some(number_at(bytes, at) as u32)
+}
+
+/// Keeps a packet behind the one at `prev`.
+pub fn put_behind(bytes: &mut [u8], prev: usize, number: u32, packet: &[u8])
+    requires kept { ⌜ Kept (now bytes) ⌝ }
+    requires prev { ⌜ Before (now bytes) number prev ⌝ }
+    requires proper { ⌜ right (length (now packet)) ≡ true ⌝ }
+    requires absent { ⌜ has (held (now bytes)) number ≡ false ⌝ }
+    requires room { ⌜ spent (now bytes) + span 10 (length (now packet)) ≤ records (now bytes) - 1 ⌝ }
+    ensures kept { λ _. ⌜ Kept (now (bytes .exit)) ⌝ }
+    ensures held { λ _. ⌜ held (now (bytes .exit)) ≡ insert number (now (packet .entry)) (held (now (bytes .entry))) ⌝ }
+{
+    lay_packet(bytes, prev, number, packet);
+}
+
+/// Moves the packet behind the one at `prev` to the front of the buffer, and answers its length.
+pub fn take_behind(bytes: &mut [u8], prev: usize, number: u32, buffer: &mut [u8]) -> usize
+    requires kept { ⌜ Kept (now bytes) ⌝ }
+    requires prev { ⌜ Before (now bytes) number prev ⌝ }
+    requires long { ⌜ 1500 ≤ length (now buffer) ⌝ }
+    requires present { ⌜ has (held (now bytes)) number ≡ true ⌝ }
+    ensures kept { λ _. ⌜ Kept (now (bytes .exit)) ⌝ }
+    ensures held { λ _. ⌜ held (now (bytes .exit)) ≡ remove number (held (now (bytes .entry))) ⌝ }
+    ensures size { λ r. ⌜ Some r ≡ length-of (lookup (held (now (bytes .entry))) number) ⌝ }
+    ensures buffer { λ _. ⌜ now (buffer .exit) ≡ written (lookup (held (now (bytes .entry))) number) (now (buffer .entry)) ⌝ }
+{
+    let first = read(bytes, prev, NEXT);
+    let size = read(bytes, first, SIZE);
+    let last = copy(bytes, first, BODY, &mut buffer[0..size]);
+    unlink(bytes, prev, first, last);
+    size
+}
+
+/// The records that a packet of a length takes, or 0 where there is no such packet.
+pub fn price_of(length: usize) -> u32
+    ensures { λ r. ⌜ r ≡ cond (right length) (span 10 length) 0 ⌝ }
+{
+    if length < 16 || length > 1500 {
+        return 0;
+    }
+    if length <= 54 {
+        return 1;
+    }
+    1 + (length as u32 + 7) / 62
+}
+
+/// The records that are in use.
+pub fn used_in(bytes: &[u8]) -> u32
+    requires { ⌜ Kept (now bytes) ⌝ }
+    ensures { λ r. ⌜ r ≡ spent (now (bytes .entry)) ⌝ }
+{
+    let count = bytes.len() / RECORD;
+    let mut used = 0;
+    let mut at = read(bytes, 0, NEXT);
+    for step in 0..count {
+        if at == 0 {
+            return used;
+        }
+        used += price_of(read(bytes, at, SIZE));
+        at = read(bytes, at, NEXT);
+    }
+    used
+}
+
+/// Every record free, in order.
+pub fn free_all(bytes: &mut [u8])
+    requires whole { ⌜ length (now bytes) ≡ 64 * records (now bytes) ⌝ }
+    requires least { ⌜ 26 ≤ records (now bytes) ⌝ }
+    requires most { ⌜ records (now bytes) ≤ 65535 ⌝ }
+    ensures kept { λ _. ⌜ Kept (now (bytes .exit)) ⌝ }
+    ensures held { λ _. ⌜ held (now (bytes .exit)) ≡ [] ⌝ }
+{
+    let count = bytes.len() / RECORD;
+    for r in 0..count {
+        let after = if r + 1 < count { r + 1 } else { 0 };
+        write(bytes, r, LINK, after);
+    }
+    write(bytes, 0, NEXT, 0);
+}
