@@ -2,38 +2,58 @@
 use mathlib.Core.Path.{_≡_, refl, sym, _∙_, ap, subst}
 use mathlib.Core.List.{List, [], _∷_, _++_}
 use mathlib.Core.Bool.{true}
-use Prim.Native.Nat.{ℕ, _+_, _-_, _/_, _≤_, _<_}
+use mathlib.Core.Logic.{_⊎_, inl, inr, ⊎-elim}
+use Prim.Native.Nat.{ℕ, suc, _+_, _-_, _/_, _≤_, _<_}
 use native.Mathlib.Omega.{arith}
 use lib.ListN.{length}
 use lib.Dec.{eqb}
 use Rattle.std.proofs.shelf.Tests.{eqb-true, both-ways}
 use Rattle.std.proofs.shelf.Ways.{tells}
 use Rattle.std.specs.declared.option.Option.the-variants.{Some}
-use Rattle.chain_shelf.specs.Records.{mem, records, link, next, number, size, span, walk, cnt, heads, Inside, Below, under, rest, last}
-use Rattle.shelf.specs.Store.{Packets, Sized, has, lookup}
+use Rattle.chain_shelf.specs.Records.{Mem, mem, records, link, next, number, size, tail, span, walk, cnt, heads, Inside, Below, under, rest, last}
+use Rattle.shelf.specs.Store.{Packets, Up, Sized, has, lookup}
 use Rattle.chain_shelf.specs.Chain.{pack, layout, packets, tally, packs, held, Seg, Sound}
 use Rattle.chain_shelf.proofs.Fills.{cnt-first}
 use Rattle.chain_shelf.proofs.Frames.{heads-tally, pack-length}
-use Rattle.chain_shelf.proofs.Segs.{first, seg-first, seg-nonzero, below-from}
+use Rattle.chain_shelf.proofs.Segs.{first, seg-from, seg-first, seg-last, below-from, below-last}
 use Rattle.chain_shelf.proofs.Places.{place, at-first, has-place, lookup-place}
 use Rattle.chain_shelf.proofs.Puts.{halves}
+use Rattle.chain_shelf.proofs.Trails.{under-more}
 
 pub heads-below : (b : List ℕ) → Sound b → Below (records b) (heads b)
 heads-below b s = below-from (records b) (heads b) (λ q l. let t = heads-tally (mem b) (heads b) q in s .inside q (omega arith) .1)
 
-split-chain : (b : List ℕ) (k : ℕ) → Sound b → Seg (next (mem b)) 0 (under (mem b) k (heads b) ++ rest (mem b) k (heads b))
-split-chain b k s = subst (Seg (next (mem b)) 0) (sym (place (mem b) k (heads b))) (s .chain)
+pub tail-below : (b : List ℕ) → Sound b → tail (mem b) < records b
+tail-below b s = let l = s .least in let h = below-last (records b) 0 (heads b) (omega arith) (heads-below b s) in omega (arith, s .ends)
+
+-- where the last packet's number is below k, so are the others
+under-all : (m : Mem) (k a h : ℕ) (hs : List ℕ) → Up a (packets (layout m (h ∷ hs))) → number m (last h hs) < k → (number m h < k) × (under m k (h ∷ hs) ≡ h ∷ hs)
+under-all m k a h [] u l = (l, under-more m k h [] l)
+under-all m k a h (x ∷ hs) u l =
+    let i = under-all m k (suc (number m h)) x hs (u .2) l in
+    let n : number m h < k = omega (arith, i .0, u .2 .0) in
+    (n, under-more m k h (x ∷ hs) n ∙ ap (λ t. h ∷ t) (i .1))
+
+pub all-under : (b : List ℕ) (k : ℕ) → Sound b → (tail (mem b) ≡ 0) ⊎ (number (mem b) (tail (mem b)) < k) → tail (mem b) ≡ last 0 (under (mem b) k (heads b))
+all-under b k s c = s .ends ∙ ap (last 0) (sym (go (heads b) (s .chain) (s .rising) (⊎-elim (λ z. inl (sym (s .ends) ∙ z)) (λ l. inr (subst (λ t. number (mem b) t < k) (s .ends) l)) c)))
+  where
+    go : (hs : List ℕ) → Seg (next (mem b)) 0 hs → Up 0 (packets (layout (mem b) hs)) → (last 0 hs ≡ 0) ⊎ (number (mem b) (last 0 hs) < k) → under (mem b) k hs ≡ hs
+    go [] g u d = refl
+    go (h ∷ hs) g u d = ⊎-elim (λ z. absurd (seg-last (next (mem b)) h hs (g .2) (g .1) z)) (λ l. under-all (mem b) k 0 h hs u l .1) d
 
 module _ (b : List ℕ) (k at : ℕ) (s : Sound b) (e : at ≡ next (mem b) (last 0 (under (mem b) k (heads b)))) where
+  left : Seg (next (mem b)) (last 0 (under (mem b) k (heads b))) (rest (mem b) k (heads b))
+  left = seg-from (next (mem b)) 0 (under (mem b) k (heads b)) (rest (mem b) k (heads b)) (subst (Seg (next (mem b)) 0) (sym (place (mem b) k (heads b))) (s .chain))
+
   at-is : at ≡ first (rest (mem b) k (heads b))
-  at-is = e ∙ seg-first (next (mem b)) 0 (under (mem b) k (heads b)) (rest (mem b) k (heads b)) (split-chain b k s)
+  at-is = e ∙ seg-first (next (mem b)) (last 0 (under (mem b) k (heads b))) (rest (mem b) k (heads b)) left
 
   pub none-left : at ≡ 0 → rest (mem b) k (heads b) ≡ []
   none-left z = go (rest (mem b) k (heads b)) refl
     where
       go : (C : List ℕ) → rest (mem b) k (heads b) ≡ C → rest (mem b) k (heads b) ≡ []
       go [] q = q
-      go (h ∷ C) q = absurd (seg-nonzero (next (mem b)) 0 (under (mem b) k (heads b)) h C (subst (λ t. Seg (next (mem b)) 0 (under (mem b) k (heads b) ++ t)) q (split-chain b k s)) (sym (at-is ∙ ap first q) ∙ z))
+      go (h ∷ C) q = absurd (subst (Seg (next (mem b)) (last 0 (under (mem b) k (heads b)))) q left .1 (sym (at-is ∙ ap first q) ∙ z))
 
   pub some-left : (at ≡ 0 → ⊥) → (B : List ℕ) × (rest (mem b) k (heads b) ≡ at ∷ B)
   some-left n = go (rest (mem b) k (heads b)) refl

@@ -6,7 +6,7 @@ use Prim.Native.Nat.{ℕ, zero, suc, _+_, _-_, _*_, _≤_, _<_}
 use native.Mathlib.Omega.{arith}
 use lib.ListN.{length}
 use Rattle.std.proofs.shelf.Tests.{cases-eq}
-use Rattle.chain_shelf.specs.Records.{mem, records, link, next, walk, hit, cnt}
+use Rattle.chain_shelf.specs.Records.{mem, records, link, next, tail, in-use, walk, hit, cnt}
 use Rattle.chain_shelf.specs.Chain.{held, Sound}
 use Rattle.chain_shelf.proofs.Fills.{hit-same, hit-not}
 use Rattle.chain_shelf.proofs.Sounds.{sound-of}
@@ -28,11 +28,11 @@ row g R (suc (suc n)) r l h q =
     (omega arith, λ x. (omega arith, omega arith)))
     (λ (e : q ≡ r → ⊥). let z = hit-not q r e in (omega arith, λ x. let k = j (omega arith) in (omega (arith, k .0), omega (arith, k .1)))) (cases-eq q r)
 
-pub fresh-sound : (b : List ℕ) → length b ≡ 64 * records b → 26 ≤ records b → records b ≤ 65535 → next (mem b) 0 ≡ 0 → ((s : ℕ) → s + 1 < records b → link (mem b) s ≡ s + 1) → Sound b × (held b ≡ [])
-fresh-sound b w l u z h =
+pub fresh-sound : (b : List ℕ) → length b ≡ 64 * records b → 26 ≤ records b → records b ≤ 65535 → next (mem b) 0 ≡ 0 → tail (mem b) ≡ 0 → in-use (mem b) ≡ 0 → ((s : ℕ) → s + 1 < records b → link (mem b) s ≡ s + 1) → Sound b × (held b ≡ [])
+fresh-sound b w l u z t c h =
     let g = link (mem b) in
     let R = records b in
     let f : walk g (R - 1 - 0) (g 0) ≡ walk g (R - 1) 1 = let a : g 0 ≡ 1 = h 0 (omega arith) in let e : R - 1 - 0 ≡ R - 1 = omega arith in (λ i. walk g (e i) (a i)) in
     let x = row g R (R - 1) 1 (omega arith) h in
     sound-of b [] [] (walk g (R - 1) 1) w l u z refl (omega arith) f
-    (λ q. let y = x q .0 in omega arith) (λ q i. let y = x q .1 (omega arith) in (omega (arith, y .0), omega (arith, y .1))) tt tt
+    (λ q. let y = x q .0 in omega arith) (λ q i. let y = x q .1 (omega arith) in (omega (arith, y .0), omega (arith, y .1))) t c tt tt

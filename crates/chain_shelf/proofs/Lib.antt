@@ -11,5 +11,4 @@ mod Takes
 mod Finds
 mod Lays
 mod Fresh
-mod Used
 mod Stores

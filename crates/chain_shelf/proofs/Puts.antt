@@ -7,13 +7,13 @@ use Prim.Native.Nat.{ℕ, _^_, zero, suc, _+_, _-_, _/_, _≤_, _<_}
 use native.Mathlib.Omega.{arith}
 use lib.ListN.{length}
 use Rattle.std.proofs.shelf.Tests.{cases-eq}
-use Rattle.chain_shelf.specs.Records.{Mem, mem, records, link, next, number, size, span, walk, ahead, gather, hit, cnt, heads, Apart, Inside, under, rest, last}
+use Rattle.chain_shelf.specs.Records.{Mem, mem, records, link, next, number, size, tail, in-use, span, walk, ahead, gather, hit, cnt, heads, Apart, Inside, under, rest, last}
 use Rattle.shelf.specs.Store.{units, Up, Sized, has, insert}
 use Rattle.chain_shelf.specs.Chain.{pack, layout, packets, tally, packs, held, spent, free, Seg, Sound, LaidIn}
 use Rattle.chain_shelf.proofs.Fills.{hit-not, cnt-first}
 use Rattle.chain_shelf.proofs.Counts.{cnt-append, tally-append, layout-append, packets-append, walk-split, walk-keep, last-in}
 use Rattle.chain_shelf.proofs.Frames.{layout-same, heads-tally}
-use Rattle.chain_shelf.proofs.Segs.{seg-in}
+use Rattle.chain_shelf.proofs.Segs.{seg-in, seg-from, seg-end, last-append}
 use Rattle.shelf.proofs.Kept.{up-insert, sized-insert, units-insert}
 use Rattle.chain_shelf.proofs.Places.{place, insert-place}
 use Rattle.chain_shelf.proofs.Sounds.{sound-of}
@@ -100,10 +100,10 @@ module _ (b d : List ℕ) (k : ℕ) (xs : List ℕ) (s : Sound b) (len : length 
 
   new : pack w r ≡ (k, xs, X)
   new =
-      let z = li .size in
+      let z = li .sized in
       let g : gather w (span 10 (size w r)) r 10 (size w r) ≡ xs = ap (λ t. gather w (span 10 t) r 10 t) z ∙ li .bytes in
       let v : walk (link w) (span 10 (size w r)) r ≡ X = ap (λ t. walk (link w) (span 10 t) r) z ∙ walk-keep (link m) (link w) n r (λ t l. li .links t (λ e. let i = inside t (omega arith) .0 in omega arith)) in
-      λ i. (li .number i, g i, v i)
+      λ i. (li .numbered i, g i, v i)
 
   laid : layout w (A ++ r ∷ B) ≡ layout m A ++ (k, xs, X) ∷ layout m B
   laid = layout-append w A (r ∷ B) ∙ (λ i. A-same i ++ new i ∷ B-same i)
@@ -127,7 +127,14 @@ module _ (b d : List ℕ) (k : ℕ) (xs : List ℕ) (s : Sound b) (len : length 
 
   chain : Seg (next w) 0 (A ++ r ∷ B)
   chain = seg-in (next m) (next w) 0 A B r (subst (Seg (next m) 0) (sym (place m k (heads b))) (s .chain)) (subst (λ t. Apart (0 ∷ t)) (sym (place m k (heads b))) (heads-apart b s))
-      (λ e. let i = inside r (let l = r-in in omega arith) .0 in omega arith) (li .prev) (li .next) (λ t l y. next-same t (not-new t l) y)
+      (λ e. let i = inside r (let l = r-in in omega arith) .0 in omega arith) (li .prev) (li .after) (λ t l y. next-same t (not-new t l) y)
+
+  ends : tail w ≡ last 0 (A ++ r ∷ B)
+  ends =
+      let h = place m k (heads b) in
+      li .ends
+      ∙ seg-end (next m) (last 0 A) r (last 0 A) B (tail m) (seg-from (next m) 0 A B (subst (Seg (next m) 0) (sym h) (s .chain))) (s .ends ∙ sym (ap (last 0) h) ∙ last-append 0 A B)
+      ∙ sym (last-append 0 A (r ∷ B))
 
   pub put-sound : Sound d × (held d ≡ insert k xs (held b))
   put-sound =
@@ -140,7 +147,8 @@ module _ (b d : List ℕ) (k : ℕ) (xs : List ℕ) (s : Sound b) (len : length 
       ∙ walk-keep (link m) (link w) F (ahead (link m) n r) (λ t l. li .links t (λ e. let i = inside t (omega arith) .0 in omega arith)) in
       let c : (q : ℕ) → tally q L + cnt q Y ≡ sum q = λ q. let e = tally-append q (layout m A) ((k, xs, X) ∷ layout m B) in omega arith in
       let z = sound-of d (A ++ r ∷ B) L Y (let h = s .whole in omega arith) (let h = s .least in omega arith) (let h = s .most in omega arith) chain laid (omega arith) f
-      (λ q. omega (arith, c q, once q)) (λ q l. let i = inside q (omega (arith, c q)) in (i .0, omega (arith, i .1)))
+      (λ q. omega (arith, c q, once q)) (λ q l. let i = inside q (omega (arith, c q)) in (i .0, omega (arith, i .1))) ends
+      (let h = s .counted in let i = li .counted in omega arith)
       (subst (Up 0) (sym goes-in) (up-insert 0 k xs (held b) (omega arith) wide (s .rising) absent))
       (subst Sized (sym goes-in) (sized-insert k xs (held b) lo hi (s .sized))) in
       (z .0, z .1 ∙ goes-in)

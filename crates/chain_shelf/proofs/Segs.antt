@@ -1,12 +1,13 @@
 -- The chain of packets.
-use mathlib.Core.Path.{_≡_, _∙_, ap}
+use mathlib.Core.Path.{_≡_, refl, sym, _∙_, ap}
 use mathlib.Core.List.{List, [], _∷_, _++_}
 use Prim.Native.Nat.{ℕ, _+_, _-_, _≤_, _<_}
 use native.Mathlib.Omega.{arith}
 use lib.ListN.{length}
+use Rattle.std.proofs.shelf.Tests.{eq-eqb, ne-eqb}
 use Rattle.chain_shelf.specs.Records.{Mem, trail, cnt, Apart, last, Below, span}
 use Rattle.shelf.specs.Store.{units}
-use Rattle.chain_shelf.specs.Chain.{layout, packets, Seg}
+use Rattle.chain_shelf.specs.Chain.{layout, packets, Seg, end}
 use Rattle.chain_shelf.proofs.Fills.{cnt-first, apart-first, apart-rest}
 use Rattle.chain_shelf.proofs.Counts.{cnt-append, last-in}
 use Rattle.chain_shelf.proofs.Trails.{trail-more, trail-none}
@@ -54,15 +55,32 @@ pub below-from : (R : ℕ) (hs : List ℕ) → ((q : ℕ) → 0 < cnt q hs → q
 below-from R [] h = tt
 below-from R (x ∷ hs) h = (h x (cnt-first x hs), below-from R hs (λ q l. h q (omega arith)))
 
+pub below-last : (R q : ℕ) (hs : List ℕ) → q < R → Below R hs → last q hs < R
+below-last R q [] l b = l
+below-last R q (h ∷ hs) l b = below-last R h hs (b .0) (b .1)
+
 abbrev pub first : List ℕ → ℕ
 first [] = 0
 first (h ∷ hs) = h
 
-pub seg-first : (g : ℕ → ℕ) (q : ℕ) (A B : List ℕ) → Seg g q (A ++ B) → g (last q A) ≡ first B
-seg-first g q [] [] s = s
-seg-first g q [] (h ∷ B) s = s .0
-seg-first g q (a ∷ A) B s = seg-first g a A B (s .2)
+-- what is left of the chain behind A
+pub seg-from : (g : ℕ → ℕ) (q : ℕ) (A B : List ℕ) → Seg g q (A ++ B) → Seg g (last q A) B
+seg-from g q [] B s = s
+seg-from g q (a ∷ A) B s = seg-from g a A B (s .2)
 
-pub seg-nonzero : (g : ℕ → ℕ) (q : ℕ) (A : List ℕ) (h : ℕ) (B : List ℕ) → Seg g q (A ++ h ∷ B) → h ≡ 0 → ⊥
-seg-nonzero g q [] h B s = s .1
-seg-nonzero g q (a ∷ A) h B s = seg-nonzero g a A h B (s .2)
+pub seg-first : (g : ℕ → ℕ) (q : ℕ) (B : List ℕ) → Seg g q B → g q ≡ first B
+seg-first g q [] s = s
+seg-first g q (h ∷ B) s = s .0
+
+pub seg-last : (g : ℕ → ℕ) (q : ℕ) (hs : List ℕ) → Seg g q hs → (q ≡ 0 → ⊥) → last q hs ≡ 0 → ⊥
+seg-last g q [] s n e = n e
+seg-last g q (h ∷ hs) s n e = seg-last g h hs (s .2) (s .1) e
+
+pub last-append : (q : ℕ) (A B : List ℕ) → last q (A ++ B) ≡ last (last q A) B
+last-append q [] B = refl
+last-append q (a ∷ A) B = last-append a A B
+
+-- what is behind q stays, and x comes before it
+pub seg-end : (g : ℕ → ℕ) (q x e : ℕ) (B : List ℕ) (old : ℕ) → Seg g q B → old ≡ last e B → end (g q) x old ≡ last x B
+seg-end g q x e [] old s o = let t = eq-eqb (g q) 0 s in simp t
+seg-end g q x e (h ∷ B) old s o = let t = ne-eqb (g q) 0 (λ z. s .1 (sym (s .0) ∙ z)) in simp t o

@@ -6,7 +6,7 @@ use Prim.Native.Nat.{ℕ, suc, _+_, _-_, _*_, _≤_, _<_}
 use native.Mathlib.Omega.{arith}
 use denote.Struct.Props.{props}
 use lib.ListN.{length}
-use Rattle.chain_shelf.specs.Records.{mem, records, link, next, span, walk, cnt, heads}
+use Rattle.chain_shelf.specs.Records.{mem, records, link, next, tail, in-use, span, walk, cnt, heads, last}
 use Rattle.shelf.specs.Store.{Packets, units, Up, Sized}
 use Rattle.chain_shelf.specs.Chain.{Pack, layout, packets, tally, packs, held, spent, free, Seg, Sound, Kept}
 use Rattle.chain_shelf.proofs.Segs.{seg-trail, heads-units}
@@ -31,6 +31,8 @@ sound-prop b x y =
     let e : IsProp ((q : ℕ) → tally q (packs b) + cnt q (free b) ≤ 1) = search props in
     let f : IsProp ((q : ℕ) → 0 < tally q (packs b) + cnt q (free b) → (0 < q) × (q < records b)) = search props in
     let g : IsProp (spent b ≤ records b - 1) = search props in
+    let h : IsProp (tail (mem b) ≡ last 0 (heads b)) = search props in
+    let j : IsProp (in-use (mem b) ≡ spent b) = search props in
     λ i. record {
       whole = a (x .whole) (y .whole) i;
       least = c (x .least) (y .least) i;
@@ -38,6 +40,8 @@ sound-prop b x y =
       chain = seg-prop (next (mem b)) 0 (heads b) (x .chain) (y .chain) i;
       once = e (x .once) (y .once) i;
       inside = f (x .inside) (y .inside) i;
+      ends = h (x .ends) (y .ends) i;
+      counted = j (x .counted) (y .counted) i;
       room = g (x .room) (y .room) i;
       rising = up-prop 0 (held b) (x .rising) (y .rising) i;
       sized = sized-prop (held b) (x .sized) (y .sized) i;
@@ -52,8 +56,9 @@ pub sound-of : (b hs : List ℕ) (L : List Pack) (fs : List ℕ)
     → Seg (next (mem b)) 0 hs → layout (mem b) hs ≡ L → units (span 10) (packets L) ≤ records b - 1
     → walk (link (mem b)) (records b - 1 - units (span 10) (packets L)) (link (mem b) 0) ≡ fs
     → ((q : ℕ) → tally q L + cnt q fs ≤ 1) → ((q : ℕ) → 0 < tally q L + cnt q fs → (0 < q) × (q < records b))
+    → tail (mem b) ≡ last 0 hs → in-use (mem b) ≡ units (span 10) (packets L)
     → Up 0 (packets L) → Sized (packets L) → Sound b × (held b ≡ packets L)
-sound-of b hs L fs wh le mo ch la ro fr on ins up si =
+sound-of b hs L fs wh le mo ch la ro fr on ins en co up si =
     let n = heads-units (mem b) hs in
     let u : units (span 10) (packets (layout (mem b) hs)) ≡ units (span 10) (packets L) = ap (λ t. units (span 10) (packets t)) la in
     let e : heads b ≡ hs = seg-trail (next (mem b)) 0 (records b) hs ch (omega arith) in
@@ -67,6 +72,8 @@ sound-of b hs L fs wh le mo ch la ro fr on ins up si =
         chain = subst (Seg (next (mem b)) 0) (sym e) ch;
         once = λ q. omega (arith, c q, on q);
         inside = λ q l. ins q (omega (arith, c q));
+        ends = en ∙ ap (last 0) (sym e);
+        counted = co ∙ ap (λ t. units (span 10) (packets t)) (sym p);
         room = subst (λ t. units (span 10) (packets t) ≤ records b - 1) (sym p) ro;
         rising = subst (λ t. Up 0 (packets t)) (sym p) up;
         sized = subst (λ t. Sized (packets t)) (sym p) si;

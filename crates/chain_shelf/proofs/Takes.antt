@@ -5,12 +5,12 @@ use mathlib.Core.Logic.{inl}
 use Prim.Native.Nat.{ℕ, _+_, _-_, _/_, _≤_, _<_}
 use native.Mathlib.Omega.{arith}
 use lib.ListN.{length}
-use Rattle.chain_shelf.specs.Records.{Mem, mem, records, link, next, number, size, span, walk, ahead, cnt, heads, Apart, under, rest, last}
+use Rattle.chain_shelf.specs.Records.{Mem, mem, records, link, next, number, size, tail, span, walk, ahead, cnt, heads, Apart, under, rest, last}
 use Rattle.shelf.specs.Store.{units, Up, Sized, remove}
 use Rattle.chain_shelf.specs.Chain.{pack, layout, packets, tally, packs, held, spent, free, Seg, Sound, TakenOut}
 use Rattle.chain_shelf.proofs.Counts.{cnt-append, tally-append, layout-append, packets-append, walk-split, walk-keep, last-in, redirect}
 use Rattle.chain_shelf.proofs.Frames.{layout-same, heads-tally, link-same, pack-length}
-use Rattle.chain_shelf.proofs.Segs.{seg-out}
+use Rattle.chain_shelf.proofs.Segs.{seg-out, seg-from, seg-end, last-append}
 use Rattle.shelf.proofs.Kept.{up-remove, sized-remove, units-remove}
 use Rattle.chain_shelf.proofs.Places.{place, remove-place, lookup-place}
 use Rattle.chain_shelf.proofs.Puts.{halves, last-of, heads-apart}
@@ -84,10 +84,20 @@ module _ (b d : List ℕ) (k h : ℕ) (B : List ℕ) (s : Sound b) (len : length
       let i = inside t x .0 in
       link-same m w t (to .others t 0 (omega arith) (λ e. absurd (omega arith)) (λ e. absurd (y e)) (λ _. inl (omega arith))) (to .others t 1 (omega arith) (λ e. absurd (omega arith)) (λ e. absurd (y e)) (λ _. inl (omega arith)))
 
+  split : heads b ≡ A ++ h ∷ B
+  split = sym (place m k (heads b)) ∙ ap (λ t. A ++ t) is
+
+  was : Seg (next m) 0 (A ++ h ∷ B)
+  was = subst (Seg (next m) 0) split (s .chain)
+
+  ends : tail w ≡ last 0 (A ++ B)
+  ends =
+      to .ends ∙ seg-end (next m) h (last 0 A) h B (tail m) (seg-from (next m) 0 A (h ∷ B) was .2) (s .ends ∙ ap (last 0) split ∙ last-append 0 A (h ∷ B))
+      ∙ sym (last-append 0 A B)
+
   chain : Seg (next w) 0 (A ++ B)
   chain =
-      let e = sym (place m k (heads b)) ∙ ap (λ t. A ++ t) is in
-      seg-out (next m) (next w) 0 A B h (subst (Seg (next m) 0) e (s .chain)) (subst (λ t. Apart (0 ∷ t)) e (heads-apart b s)) (to .prev) (λ t _ y. next-same t y)
+      seg-out (next m) (next w) 0 A B h was (subst (λ t. Apart (0 ∷ t)) split (heads-apart b s)) (to .prev) (λ t _ y. next-same t y)
 
   turned : (walk (link w) n h ≡ X) × (ahead (link w) n h ≡ link w l)
   turned = redirect (link m) (link w) ((size m h - 54 + 61) / 62) h (λ q. let o = once q in omega arith) (λ t x y. link-kept t (omega arith) y)
@@ -95,7 +105,7 @@ module _ (b d : List ℕ) (k h : ℕ) (B : List ℕ) (s : Sound b) (len : length
   freed : walk (link w) (n + F) (link w 0) ≡ X ++ Y
   freed =
       ap (walk (link w) (n + F)) (to .free) ∙ walk-split (link w) n F h
-      ∙ (λ i. turned .0 i ++ walk (link w) F ((turned .1 ∙ to .tail) i))
+      ∙ (λ i. turned .0 i ++ walk (link w) F ((turned .1 ∙ to .back) i))
       ∙ ap (λ t. X ++ t) (walk-keep (link m) (link w) F (link m 0) (λ t x. link-kept t (omega arith) (not-l t (let o = once t in omega arith))))
 
   pub take-sound : Sound d × (held d ≡ remove k (held b))
@@ -111,7 +121,8 @@ module _ (b d : List ℕ) (k h : ℕ) (B : List ℕ) (s : Sound b) (len : length
       ap (λ t. walk (link w) t (link w 0)) e ∙ freed in
       let c : (q : ℕ) → tally q L + cnt q (X ++ Y) ≡ sum q = λ q. let e = tally-append q (layout m A) (layout m B) in let a = cnt-append q X Y in omega arith in
       let y = sound-of d (A ++ B) L (X ++ Y) (let i = s .whole in omega arith) (let i = s .least in omega arith) (let i = s .most in omega arith) chain laid (omega arith) f
-      (λ q. omega (arith, c q, once q)) (λ q x. let i = inside q (omega (arith, c q)) in (i .0, omega (arith, i .1)))
+      (λ q. omega (arith, c q, once q)) (λ q x. let i = inside q (omega (arith, c q)) in (i .0, omega (arith, i .1))) ends
+      (let i = s .counted in let j = to .counted in omega arith)
       (subst (Up 0) (sym goes-out) (up-remove 0 k (held b) (s .rising)))
       (subst Sized (sym goes-out) (sized-remove k (held b) (s .sized))) in
       (y .0, y .1 ∙ goes-out)

@@ -3,8 +3,10 @@ use mathlib.Core.Path.{_≡_}
 use mathlib.Core.Logic.{_⊎_}
 use mathlib.Core.List.{List, [], _∷_}
 use Prim.Native.Nat.{ℕ, _+_, _-_, _*_, _/_, _≤_, _<_}
+use mathlib.Core.Bool.{cond}
+use lib.Dec.{eqb}
 use lib.ListN.{length}
-use Rattle.chain_shelf.specs.Records.{Mem, mem, records, link, next, number, size, span, walk, gather, cnt, heads, ahead, under, last}
+use Rattle.chain_shelf.specs.Records.{Mem, mem, records, link, next, number, size, tail, in-use, span, walk, gather, cnt, heads, ahead, under, last}
 use Rattle.shelf.specs.Store.{Packets, Store, units, Up, Sized}
 
 -- a packet: number, bytes, records
@@ -51,6 +53,8 @@ pub record Sound (b : List ℕ) : Type 0 where
   pub chain : Seg (next (mem b)) 0 (heads b)
   pub once : (q : ℕ) → tally q (packs b) + cnt q (free b) ≤ 1
   pub inside : (q : ℕ) → 0 < tally q (packs b) + cnt q (free b) → (0 < q) × (q < records b)
+  pub ends : tail (mem b) ≡ last 0 (heads b)
+  pub counted : in-use (mem b) ≡ spent b
   pub room : spent b ≤ records b - 1
   pub rising : Up 0 (held b)
   pub sized : Sized (held b)
@@ -62,12 +66,18 @@ store b = record { held = held b; total = records b - 1; price = span 10 }
 abbrev pub Kept : List ℕ → Type 0
 Kept b = ∥ Sound b ∥₁
 
+-- the last packet's first record: x where no packet comes after it, else as it was
+abbrev pub end : ℕ → ℕ → ℕ → ℕ
+end after x old = cond (eqb after 0) x old
+
 -- what laying a packet in changes: its records are the first free ones, and it stands behind the packet at p
 pub record LaidIn (m w : Mem) (p k : ℕ) (xs : List ℕ) : Type 0 where
+  pub ends : tail w ≡ end (next m p) (link m 0) (tail m)
+  pub counted : in-use w ≡ in-use m + span 10 (length xs)
   pub prev : next w p ≡ link m 0
-  pub next : next w (link m 0) ≡ next m p
-  pub number : number w (link m 0) ≡ k
-  pub size : size w (link m 0) ≡ length xs
+  pub after : next w (link m 0) ≡ next m p
+  pub numbered : number w (link m 0) ≡ k
+  pub sized : size w (link m 0) ≡ length xs
   pub bytes : gather w (span 10 (length xs)) (link m 0) 10 (length xs) ≡ xs
   pub free : link w 0 ≡ ahead (link m) (span 10 (length xs)) (link m 0)
   pub links : (s : ℕ) → (s ≡ 0 → ⊥) → link w s ≡ link m s
@@ -77,8 +87,14 @@ pub record LaidIn (m w : Mem) (p k : ℕ) (xs : List ℕ) : Type 0 where
 pub record TakenOut (m w : Mem) (p h l : ℕ) : Type 0 where
   pub prev : next w p ≡ next m h
   pub free : link w 0 ≡ h
-  pub tail : link w l ≡ link m 0
+  pub back : link w l ≡ link m 0
+  pub ends : tail w ≡ end (next m h) p (tail m)
+  pub counted : in-use w ≡ in-use m - span 10 (size m h)
   pub others : (s q : ℕ) → q < 64 → (s ≡ 0 → (2 ≤ q) × (q < 4)) → (s ≡ l → 2 ≤ q) → (s ≡ p → (q < 2) ⊎ (4 ≤ q)) → w s q ≡ m s q
+
+-- prices of some lengths
+abbrev pub Prices-worked : Type 0
+Prices-worked = (span 10 54 ≡ 1) × (span 10 55 ≡ 2) × (span 10 116 ≡ 2) × (span 10 117 ≡ 3) × (span 10 1500 ≡ 25)
 
 -- what an empty shelf means in a region of n bytes
 abbrev pub fresh : ℕ → Store

@@ -33,6 +33,13 @@ number m r = word m r 4 + 65536 * word m r 6
 abbrev pub size : Mem → ℕ → ℕ
 size m r = word m r 8
 
+-- what record 0 has beside its two links: the last packet's first record, or 0, and the units in use
+abbrev pub tail : Mem → ℕ
+tail m = word m 0 4
+
+abbrev pub in-use : Mem → ℕ
+in-use m = word m 0 6
+
 -- n bytes of record r, from o on
 abbrev pub cut : Mem → ℕ → ℕ → ℕ → List ℕ
 cut m r o zero = []
@@ -92,6 +99,7 @@ abbrev pub rest : Mem → ℕ → List ℕ → List ℕ
 rest m k [] = []
 rest m k (h ∷ hs) = cond (ltb (number m h) k) (rest m k hs) (h ∷ hs)
 
+-- the last of a list, or q
 abbrev pub last : ℕ → List ℕ → ℕ
 last q [] = q
 last q (h ∷ hs) = last h hs

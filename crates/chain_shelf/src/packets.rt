@@ -6,20 +6,30 @@ ghost use mathlib.Core.Logic.{_⊎_};
 ghost use Prim.Native.Nat.{ℕ, _+_, _-_, _*_, _<_, _≤_, _/_, _%_};
 ghost use lib.ListN.{length};
 ghost use Rattle.std.specs.declared.option.Option.the-variants.{Some};
-ghost use Rattle.chain_shelf.specs.Records.{mem, records, link, next, number as number-of, size as size-of, span, walk, cnt, Apart, Inside};
+ghost use Rattle.chain_shelf.specs.Records.{mem, records, link, next, number as number-of, size as size-of, tail, in-use, span, walk, cnt, Apart, Inside};
 ghost use Rattle.shelf.specs.Store.{has, insert, remove, lookup, above, length-of, written, right};
-ghost use Rattle.chain_shelf.specs.Chain.{held, spent, Kept, Before, LaidIn, TakenOut};
+ghost use Rattle.chain_shelf.specs.Chain.{held, spent, end, Prices-worked, Kept, Before, LaidIn, TakenOut};
 use crate::records::BODY;
+use crate::records::LAST;
 use crate::records::LINK;
+use crate::records::MORE;
 use crate::records::NEXT;
 use crate::records::NUMBER;
 use crate::records::SIZE;
+use crate::records::USED;
 use crate::records::copy;
 use crate::records::fill;
 use crate::records::number_at;
 use crate::records::read;
 use crate::records::write;
 use crate::region::RECORD;
+use shelf::LONGEST;
+use shelf::SHORTEST;
+
+/// The bytes of a packet in its first record, and in each later one.
+const FIRST_ROOM: usize = RECORD - BODY;
+
+const ROOM: usize = RECORD - MORE;
 
 /// Writes what a packet's first record has before its bytes, but for the link.
 fn head(bytes: &mut [u8], r: usize, after: usize, number: u32, size: usize)
@@ -37,10 +47,40 @@ fn head(bytes: &mut [u8], r: usize, after: usize, number: u32, size: usize)
     write(bytes, r, SIZE, size);
 }
 
+/// Writes what record 0 has, but for the link to the first packet.
+fn lead(bytes: &mut [u8], free: usize, last: usize, used: usize)
+    requires some { ⌜ 0 < records (now bytes) ⌝ }
+    requires free { ⌜ free < 65536 ⌝ }
+    requires last { ⌜ last < 65536 ⌝ }
+    requires used { ⌜ used < 65536 ⌝ }
+    ensures free { λ _. ⌜ link (mem (now (bytes .exit))) 0 ≡ free ⌝ }
+    ensures last { λ _. ⌜ tail (mem (now (bytes .exit))) ≡ last ⌝ }
+    ensures used { λ _. ⌜ in-use (mem (now (bytes .exit))) ≡ used ⌝ }
+    ensures others { λ _. ⌜ ((s q : ℕ) → q < 64 → (s ≡ 0 → (2 ≤ q) × (q < 4)) → mem (now (bytes .exit)) s q ≡ mem (now (bytes .entry)) s q) ⌝ }
+{
+    write(bytes, 0, LINK, free);
+    write(bytes, 0, LAST, last);
+    write(bytes, 0, USED, used);
+}
+
+/// The last packet's first record, now that the packet at `first` is followed by the one at `after`.
+fn end_of(bytes: &[u8], after: usize, first: usize) -> usize
+    requires some { ⌜ 0 < records (now bytes) ⌝ }
+    requires first { ⌜ first < 65536 ⌝ }
+    ensures is { λ r. ⌜ r ≡ end after first (tail (mem (now (bytes .entry)))) ⌝ }
+    ensures small { λ r. ⌜ r < 65536 ⌝ }
+{
+    if after == 0 {
+        return first;
+    }
+    read(bytes, 0, LAST)
+}
+
 /// Lays a packet into the first free records, behind the packet whose first record is `prev`.
 fn lay_packet(bytes: &mut [u8], prev: usize, number: u32, packet: &[u8])
     requires prev { ⌜ prev < records (now bytes) ⌝ }
     requires size { ⌜ length (now packet) ≤ 1500 ⌝ }
+    requires few { ⌜ in-use (mem (now bytes)) + span 10 (length (now packet)) < 65536 ⌝ }
     requires apart { ⌜ Apart (walk (link (mem (now bytes))) (span 10 (length (now packet))) (link (mem (now bytes)) 0)) ⌝ }
     requires inside { ⌜ Inside (records (now bytes)) (walk (link (mem (now bytes))) (span 10 (length (now packet))) (link (mem (now bytes)) 0)) ⌝ }
     requires out { ⌜ cnt prev (walk (link (mem (now bytes))) (span 10 (length (now packet))) (link (mem (now bytes)) 0)) ≡ 0 ⌝ }
@@ -48,26 +88,32 @@ fn lay_packet(bytes: &mut [u8], prev: usize, number: u32, packet: &[u8])
 {
     let first = read(bytes, 0, LINK);
     let after = read(bytes, prev, NEXT);
+    let last = end_of(bytes, after, first);
+    let used = read(bytes, 0, USED) + span_of(packet.len());
     head(bytes, first, after, number, packet.len());
     let free = fill(bytes, first, BODY, packet);
-    write(bytes, 0, LINK, free);
+    lead(bytes, free, last, used);
     write(bytes, prev, NEXT, first);
 }
 
-/// Takes a packet out of the chain, behind the one at `prev`, and frees its records.
-fn unlink(bytes: &mut [u8], prev: usize, first: usize, last: usize)
+/// Takes the packet at `first` out of the chain, behind the one at `prev`, and frees its records, up to the one at `stop`.
+fn unlink(bytes: &mut [u8], prev: usize, first: usize, stop: usize)
     requires most { ⌜ records (now bytes) ≤ 65535 ⌝ }
     requires prev { ⌜ prev < records (now bytes) ⌝ }
     requires first { ⌜ first < records (now bytes) ⌝ }
-    requires last { ⌜ last < records (now bytes) ⌝ }
-    requires some { ⌜ 0 < last ⌝ }
-    ensures { λ _. ⌜ TakenOut (mem (now (bytes .entry))) (mem (now (bytes .exit))) prev first last ⌝ }
+    requires stop { ⌜ stop < records (now bytes) ⌝ }
+    requires some { ⌜ 0 < stop ⌝ }
+    requires size { ⌜ size-of (mem (now bytes)) first ≤ 1500 ⌝ }
+    requires used { ⌜ span 10 (size-of (mem (now bytes)) first) ≤ in-use (mem (now bytes)) ⌝ }
+    ensures { λ _. ⌜ TakenOut (mem (now (bytes .entry))) (mem (now (bytes .exit))) prev first stop ⌝ }
 {
     let after = read(bytes, first, NEXT);
+    let last = end_of(bytes, after, prev);
+    let used = read(bytes, 0, USED) - span_of(read(bytes, first, SIZE));
     let free = read(bytes, 0, LINK);
     write(bytes, prev, NEXT, after);
-    write(bytes, last, LINK, free);
-    write(bytes, 0, LINK, first);
+    write(bytes, stop, LINK, free);
+    lead(bytes, first, last, used);
 }
 
 /// Whether the packet behind the one at `prev` has the number.
@@ -119,22 +165,31 @@ pub fn take_behind(bytes: &mut [u8], prev: usize, number: u32, buffer: &mut [u8]
 {
     let first = read(bytes, prev, NEXT);
     let size = read(bytes, first, SIZE);
-    let last = copy(bytes, first, BODY, &mut buffer[0..size]);
-    unlink(bytes, prev, first, last);
+    let stop = copy(bytes, first, BODY, &mut buffer[0..size]);
+    unlink(bytes, prev, first, stop);
     size
 }
 
-/// The records that a packet of a length takes, or 0 where there is no such packet.
-pub fn price_of(length: usize) -> u32
-    ensures { λ r. ⌜ r ≡ cond (right length) (span 10 length) 0 ⌝ }
+/// The records that a packet of a length takes.
+fn span_of(length: usize) -> usize
+    requires { ⌜ length ≤ 1500 ⌝ }
+    ensures { λ r. ⌜ r ≡ span 10 length ⌝ }
 {
-    if length < 16 || length > 1500 {
-        return 0;
-    }
-    if length <= 54 {
+    if length <= FIRST_ROOM {
         return 1;
     }
-    1 + (length as u32 + 7) / 62
+    1 + (length - FIRST_ROOM + ROOM - 1) / ROOM
+}
+
+/// The price of a length: the records that such a packet takes, or 0 where there is no such packet.
+pub fn price_of(length: usize) -> u32
+    ensures is { λ r. ⌜ r ≡ cond (right length) (span 10 length) 0 ⌝ }
+    ensures worked { λ _. ⌜ Prices-worked ⌝ }
+{
+    if length < SHORTEST || length > LONGEST {
+        return 0;
+    }
+    span_of(length) as u32
 }
 
 /// The records that are in use.
@@ -142,20 +197,10 @@ pub fn used_in(bytes: &[u8]) -> u32
     requires { ⌜ Kept (now bytes) ⌝ }
     ensures { λ r. ⌜ r ≡ spent (now (bytes .entry)) ⌝ }
 {
-    let count = bytes.len() / RECORD;
-    let mut used = 0;
-    let mut at = read(bytes, 0, NEXT);
-    for step in 0..count {
-        if at == 0 {
-            return used;
-        }
-        used += price_of(read(bytes, at, SIZE));
-        at = read(bytes, at, NEXT);
-    }
-    used
+    read(bytes, 0, USED) as u32
 }
 
-/// Every record free, in order.
+/// Frees every record, in order.
 pub fn free_all(bytes: &mut [u8])
     requires whole { ⌜ length (now bytes) ≡ 64 * records (now bytes) ⌝ }
     requires least { ⌜ 26 ≤ records (now bytes) ⌝ }
@@ -164,9 +209,10 @@ pub fn free_all(bytes: &mut [u8])
     ensures held { λ _. ⌜ held (now (bytes .exit)) ≡ [] ⌝ }
 {
     let count = bytes.len() / RECORD;
-    for r in 0..count {
+    for r in 1..count {
         let after = if r + 1 < count { r + 1 } else { 0 };
         write(bytes, r, LINK, after);
     }
     write(bytes, 0, NEXT, 0);
+    lead(bytes, 1, 0, 0);
 }

@@ -20,6 +20,11 @@ pub const SIZE: usize = 8;
 
 pub const BODY: usize = 10;
 
+/// Where record 0 has the last packet's first record and the units in use.
+pub const LAST: usize = 4;
+
+pub const USED: usize = 6;
+
 /// Where a later record has its bytes.
 pub const MORE: usize = 2;
 
@@ -102,8 +107,8 @@ pub fn number_at(bytes: &[u8], r: usize) -> u64
     read(bytes, r, NUMBER) as u64 + 65536 * (read(bytes, r, NUMBER + 2) as u64)
 }
 
-/// The first record of the last packet whose number is below the given one, or 0.
-pub fn seek(bytes: &[u8], number: u64) -> usize
+/// The first record of the last packet whose number is below the given one, or 0, by a walk from the first packet.
+fn walk_to(bytes: &[u8], number: u64) -> usize
     requires { ⌜ Kept (now bytes) ⌝ }
     ensures { λ v. ⌜ Before (now (bytes .entry)) number v ⌝ }
 {
@@ -117,4 +122,16 @@ pub fn seek(bytes: &[u8], number: u64) -> usize
         prev = at;
     }
     prev
+}
+
+/// The same, with no walk where the number is above all that are held.
+pub fn seek(bytes: &[u8], number: u64) -> usize
+    requires { ⌜ Kept (now bytes) ⌝ }
+    ensures { λ v. ⌜ Before (now (bytes .entry)) number v ⌝ }
+{
+    let last = read(bytes, 0, LAST);
+    if last == 0 || number_at(bytes, last) < number {
+        return last;
+    }
+    walk_to(bytes, number)
 }

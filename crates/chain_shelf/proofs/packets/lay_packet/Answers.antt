@@ -3,7 +3,8 @@ use Prim.Native.Nat.{ℕ, _<_, _-_, _+_, _/_}
 use native.Mathlib.Omega.{arith}
 use mathlib.Core.List.{List}
 use lib.ListN.{length}
-use Rattle.chain_shelf.specs.Records.{mem, records, link, span, walk, Apart, Inside}
+use Rattle.chain_shelf.specs.Records.{mem, records, link, tail, in-use, span, walk, Apart, Inside}
+use Rattle.chain_shelf.specs.Chain.{end}
 use Rattle.chain_shelf.proofs.Fills.{cnt-first}
 use Rattle.chain_shelf.proofs.Lays.{walk-head, laid-in}
 use Rattle.chain_shelf.proofs.packets.lay_packet.Needs as need
@@ -32,8 +33,9 @@ fill-free-requires c κs =
 pub returns : need.returns
 returns c =
     let b = c .args .bytes .now in
-    laid-in (mem b) (mem (c .head .last .bytes)) (mem (c .fill-free .last .bytes)) (mem (c .write .last .bytes)) (mem (c .write-2 .last .bytes)) (records b)
+    let used : c .read .result + c .span-of .result ≡ in-use (mem b) + span 10 (length (c .args .packet .now)) = cc (c .read .ensures .is, c .span-of .ensures) in
+    laid-in (mem b) (mem (c .head .last .bytes)) (mem (c .fill-free .last .bytes)) (mem (c .lead .last .bytes)) (mem (c .write .last .bytes)) (records b)
     (c .args .prev) (c .args .number) (c .read-first .result) (c .fill-free .result) (c .args .packet .now) (c .read-first .ensures .is) (c .pre .apart) (c .pre .inside) (c .pre .out) (c .head .ensures .others)
     (c .head .ensures .after ∙ c .read-after .ensures .is) (c .head .ensures .number) (c .head .ensures .size)
     (c .fill-free .ensures .laid) (c .fill-free .ensures .after) (c .fill-free .ensures .others)
-    (c .write .ensures .there) (c .write .ensures .others) (c .write-2 .ensures .there) (c .write-2 .ensures .others)
+    (c .lead .ensures .free) (c .lead .ensures .last ∙ c .end-of-last .ensures .is ∙ ap (λ t. end t (c .read-first .result) (tail (mem b))) (c .read-after .ensures .is)) (c .lead .ensures .used ∙ used) (c .lead .ensures .others) (c .write .ensures .there) (c .write .ensures .others)

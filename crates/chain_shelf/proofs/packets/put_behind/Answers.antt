@@ -16,6 +16,7 @@ lay-packet-requires c κs =
     record {
       prev = c .pre .prev .within;
       size = right-most (length (c .args .packet .now)) (c .pre .proper);
+      few = let l = s .most in let r = c .pre .room in let n = s .counted in omega arith;
       apart = free-apart b (span 10 (length (c .args .packet .now))) s (c .pre .room);
       inside = free-inside b (span 10 (length (c .args .packet .now))) s (c .pre .room);
       out = free-out b (span 10 (length (c .args .packet .now))) s (c .pre .room) (c .args .number) (c .args .prev) (c .pre .prev .is);

@@ -13,6 +13,7 @@ use Rattle.chain_shelf.proofs.Counts.{last-in}
 use Rattle.chain_shelf.proofs.Frames.{pack-length}
 use Rattle.chain_shelf.proofs.Finds.{present, at-inside, walk-inside, size-most}
 use Rattle.chain_shelf.proofs.Places.{lookup-place}
+use Rattle.shelf.proofs.Kept.{units-remove}
 use Rattle.chain_shelf.proofs.Takes.{take-sound}
 use Rattle.chain_shelf.proofs.Sounds.{opened}
 use Rattle.chain_shelf.proofs.packets.take_behind.Needs as need
@@ -38,8 +39,8 @@ part-copy-end c =
 part-length : (B : List ℕ) (r n : ℕ) → r ≡ n → n ≤ length B → length (take (r - 0) B) ≡ n
 part-length B r n e l = length-take-le (r - 0) B (omega arith) ∙ (let y : r - 0 ≡ n = omega arith in y)
 
-pub copy-last-requires : need.copy-last-requires
-copy-last-requires c κs =
+pub copy-stop-requires : need.copy-stop-requires
+copy-stop-requires c κs =
     let b = c .args .bytes .now in
     let s = opened b (c .pre .kept) in
     let h = c .read-first .result in
@@ -59,10 +60,21 @@ unlink-requires c κs =
     let z = size-most b (c .args .number) h (f .0) s (f .1) (f .2) in
     let e : c .read-size .result ≡ size (mem b) h = c .read-size .ensures .is in
     let n = part-length (c .args .buffer .now) (c .read-size .result) (size (mem b) h) e (omega arith) in
-    let l : c .copy-last .result ≡ last h (walk (link (mem b)) (span 10 (size (mem b) h)) h) = c .copy-last .ensures .last ∙ ap (λ t. last h (walk (link (mem b)) (span 10 t) h)) n in
+    let l : c .copy-stop .result ≡ last h (walk (link (mem b)) (span 10 (size (mem b) h)) h) = c .copy-stop .ensures .last ∙ ap (λ t. last h (walk (link (mem b)) (span 10 t) h)) n in
     let i = walk-inside b (c .args .number) h (f .0) s (f .1) (last h (walk (link (mem b)) (span 10 (size (mem b) h)) h)) (last-in h (walk (link (mem b)) ((size (mem b) h - 54 + 61) / 62) (link (mem b) h))) in
-    let m = s .most in
-    record { most = m; prev = c .pre .prev .within; first = at-inside b (c .args .number) h (f .0) s (f .1) .1; last = omega (arith, l, i .1); some = omega (arith, l, i .0) }
+    let o = lookup-place (mem b) (c .args .number) (heads b) h (f .0) (f .1) (f .2) in
+    let y = units-remove (span 10) (c .args .number) (held b) (pack (mem b) h .1) o in
+    let x = ap (span 10) (pack-length (mem b) h) in
+    let u = s .counted in
+    record {
+      most = s .most;
+      prev = c .pre .prev .within;
+      first = at-inside b (c .args .number) h (f .0) s (f .1) .1;
+      stop = omega (arith, l, i .1);
+      some = omega (arith, l, i .0);
+      size = z;
+      used = omega arith;
+    }
 
 pub returns : need.returns
 returns c =
@@ -76,13 +88,13 @@ returns c =
     let z = size-most b k h (f .0) s (f .1) (f .2) in
     let e : c .read-size .result ≡ size (mem b) h = c .read-size .ensures .is in
     let n = part-length B (c .read-size .result) (size (mem b) h) e (omega arith) in
-    let l : c .copy-last .result ≡ last h (walk (link (mem b)) (span 10 (size (mem b) h)) h) = c .copy-last .ensures .last ∙ ap (λ t. last h (walk (link (mem b)) (span 10 t) h)) n in
+    let l : c .copy-stop .result ≡ last h (walk (link (mem b)) (span 10 (size (mem b) h)) h) = c .copy-stop .ensures .last ∙ ap (λ t. last h (walk (link (mem b)) (span 10 t) h)) n in
     let p = pack (mem b) h .1 in
     let o = lookup-place (mem b) k (heads b) h (f .0) (f .1) (f .2) in
     let y : c .read-size .result ≡ length p = e ∙ sym (pack-length (mem b) h) in
     let t = subst₂ (λ x v. TakenOut (mem b) (mem d) x h v) (c .pre .prev .is) l (c .unlink .ensures) in
     let u = take-sound b d k h (f .0) s (c .unlink .kept .bytes) (f .1) (f .2) t in
-    let x : c .copy-last .last .buffer ≡ p = c .copy-last .ensures .laid ∙ ap (λ t. gather (mem b) (span 10 t) h 10 t) n in
+    let x : c .copy-stop .last .buffer ≡ p = c .copy-stop .ensures .laid ∙ ap (λ t. gather (mem b) (span 10 t) h 10 t) n in
     let v : c .read-size .result - 0 ≡ length p = omega arith in
     record {
       kept = ∣ u .0 ∣₁;

@@ -1,60 +1,32 @@
-use mathlib.Core.Path.{_≡_, sym, _∙_, ap, subst}
-use mathlib.Core.List.{[], _∷_}
-use Prim.Native.Nat.{_-_, _+_}
+use mathlib.Core.Path.{_≡_, _∙_, ap, subst, sym}
+use mathlib.Core.Logic.{inl, inr}
+use Prim.Native.Nat.{_-_, _<_}
 use native.Mathlib.Omega.{arith}
-use Rattle.chain_shelf.specs.Records.{mem, records, next, number, trail, Below, under, last}
-use Rattle.chain_shelf.proofs.Finds.{heads-below}
+use Rattle.chain_shelf.specs.Records.{mem, records, number, tail}
+use Rattle.chain_shelf.proofs.Finds.{tail-below, all-under}
 use Rattle.chain_shelf.proofs.Sounds.{opened}
-use Rattle.chain_shelf.proofs.Trails.{trail-more, trail-none, under-more, under-none}
 use Rattle.chain_shelf.proofs.records.seek.Needs as need
-use Rattle.chain_shelf.proofs.records.seek.Needs.{then-at-eq0·by·then-at-eq0, then-at-eq0·by·else-at-eq0·then-number-at-number}
+use Rattle.chain_shelf.proofs.records.seek.Needs.{then-last-eq0·by·then-last-eq0, then-last-eq0·by·else-last-eq0·then-number-at-number}
+
+pub read-last-requires : need.read-last-requires
+read-last-requires c κs = let s = opened (c .args .bytes .now) (c .pre) in let l = s .least in (omega arith, omega arith)
 
 pub number-at-requires : need.number-at-requires
 number-at-requires c κs =
     let b = c .args .bytes .now in
-    let g = next (mem b) in
-    let e : c .read-at .result ≡ g (c .loop-step .prev) = c .read-at .ensures .is in
-    let t = trail-more g (records b - c .loop-step .step) (g (c .loop-step .prev)) (omega arith) (λ z. c .if-at-eq0 .left (e ∙ z)) in
-    omega (arith, e, subst (Below (records b)) t (c .loop-step .inv .1) .0)
+    let e : c .read-last .result ≡ tail (mem b) = c .read-last .ensures .is in
+    omega (arith, tail-below b (opened b (c .pre)))
 
-pub returns-then-at-eq0 : need.returns-then-at-eq0
-returns-then-at-eq0 c =
-    let b = c .args .bytes .now in
-    let g = next (mem b) in
-    let k = c .args .number in
-    let p = c .loop-step .prev in
-    let a = c .read-at .result in
-    let F = records b - c .loop-step .step in
-    let e : a ≡ g p = c .read-at .ensures .is in
-    let n : under (mem b) k (trail g F (g p)) ≡ [] =
-    elim (c .then-at-eq0 .came) [
-      | then-at-eq0·by·then-at-eq0 w ↦ ap (under (mem b) k) (trail-none g F (g p) (sym e ∙ w .if-at-eq0 .taken))
-      | then-at-eq0·by·else-at-eq0·then-number-at-number w ↦
-          ap (under (mem b) k) (ap (trail g F) (sym e) ∙ trail-more g F a (omega arith) (w .if-at-eq0 .left))
-          ∙ under-none (mem b) k a (trail g (F - 1) (g a)) (omega (arith, w .number-at .ensures .is, w .if-number-at-number .taken))
-    ] in
-    record { is = sym (ap (last p) n) ∙ c .loop-step .inv .2; within = c .loop-step .inv .0 }
-
-pub loop-step-again : need.loop-step-again
-loop-step-again c =
-    let b = c .args .bytes .now in
-    let g = next (mem b) in
-    let k = c .args .number in
-    let p = c .loop-step .prev in
-    let a = c .read-at .result in
-    let F = records b - c .loop-step .step in
-    let G = records b - (c .loop-step .step + 1) in
-    let e : a ≡ g p = c .read-at .ensures .is in
-    let s : F - 1 ≡ G = omega arith in
-    let t : trail g F (g p) ≡ a ∷ trail g G (g a) = ap (trail g F) (sym e) ∙ trail-more g F a (omega arith) (c .if-at-eq0 .left) ∙ ap (λ f. a ∷ trail g f (g a)) s in
-    let u = subst (Below (records b)) t (c .loop-step .inv .1) in
-    let n = c .number-at .ensures .is in
-    (u .0, u .1, sym (ap (λ hs. last p (under (mem b) k hs)) t ∙ ap (last p) (under-more (mem b) k a (trail g G (g a)) (omega arith))) ∙ c .loop-step .inv .2)
-
-pub loop-step-holds : need.loop-step-holds
-loop-step-holds c =
+pub returns-then-last-eq0 : need.returns-then-last-eq0
+returns-then-last-eq0 c =
     let b = c .args .bytes .now in
     let s = opened b (c .pre) in
-    let l = s .least in
-    let z : records b - 0 ≡ records b = omega arith in
-    (omega arith, subst (λ f. Below (records b) (trail (next (mem b)) f (next (mem b) 0))) (sym z) (heads-below b s), ap (λ f. last 0 (under (mem b) (c .args .number) (trail (next (mem b)) f (next (mem b) 0)))) z)
+    let k = c .args .number in
+    let e : c .read-last .result ≡ tail (mem b) = c .read-last .ensures .is in
+    let f : tail (mem b) ≡ _ =
+    elim (c .then-last-eq0 .came) [
+      | then-last-eq0·by·then-last-eq0 w ↦ all-under b k s (inl (sym e ∙ w .if-last-eq0 .taken))
+      | then-last-eq0·by·else-last-eq0·then-number-at-number w ↦
+          all-under b k s (inr (omega (arith, ap (number (mem b)) e, w .number-at .ensures .is, w .if-number-at-number .taken)))
+    ] in
+    record { is = e ∙ f; within = omega (arith, tail-below b s) }
