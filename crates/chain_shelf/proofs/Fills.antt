@@ -7,7 +7,7 @@ use lib.ListN.{length, take, drop}
 use borrow.Rule.Slice.PartMut.{putMid}
 use Rattle.std.proofs.shelf.Lists.{take-append-drop, take-at, drop-all, length-drop}
 use Rattle.std.proofs.shelf.Tests.{eq-eqb, ne-eqb}
-use Rattle.chain_shelf.specs.Records.{Mem, cut, link, span, walk, ahead, gather, hit, cnt, Apart, Inside}
+use Rattle.chain_shelf.specs.Records.{Mem, cut, link, span, walk, gather, hit, cnt, Apart, Inside}
 use Rattle.chain_shelf.proofs.Cuts.{cut-same}
 
 pub hit-same : (q : ℕ) → hit q q ≡ 1
@@ -58,9 +58,6 @@ module _ (m v w : Mem) (r o n n′ a : ℕ) (p : List ℕ) (lo : 2 ≤ o) (hi : 
 
   pub walk-more : walk (link m) (span o n) r ≡ r ∷ walk (link v) (span 2 n′) a
   walk-more = ap (λ f. walk (link m) f r) (span-more o n lo hi l ∙ ap (λ t. suc (span 2 t)) (sym k)) ∙ ap (λ g. r ∷ walk g (span 2 n′) (g r)) (sym links) ∙ ap (λ t. r ∷ walk (link v) (span 2 n′) t) (sym x)
-
-  pub ahead-more : ahead (link m) (span o n) r ≡ ahead (link v) (span 2 n′) a
-  ahead-more = ap (λ f. ahead (link m) f r) (span-more o n lo hi l ∙ ap (λ t. suc (span 2 t)) (sym k)) ∙ ap (λ g. ahead g (span 2 n′) (g r)) (sym links) ∙ ap (ahead (link v) (span 2 n′)) (sym x)
 
   out : cnt r (walk (link v) (span 2 n′) a) ≡ 0
   out = apart-first r (walk (link v) (span 2 n′) a) (subst Apart walk-more once)

@@ -9,26 +9,33 @@ use Rattle.chain_shelf.specs.Records.{Mem, link, number, size, cut, span, walk
 use Rattle.chain_shelf.specs.Chain.{pack, layout, tally}
 use lib.ListN.{length, length-append}
 use Rattle.chain_shelf.proofs.Cuts.{cut-same, cut-length}
+use Rattle.chain_shelf.proofs.Counts.{walk-keep}
 use Rattle.chain_shelf.proofs.Fills.{hit-same, hit-not, cnt-first, apart-first, apart-rest}
 
 pub link-same : (m w : Mem) (r : ℕ) → w r 0 ≡ m r 0 → w r 1 ≡ m r 1 → link w r ≡ link m r
 link-same m w r a b = cc
 
--- records of a chain that are left as they were, but for what lies between 2 and o in the first
-pub chain-same : (m w : Mem) (f r o n : ℕ) → Apart (walk (link m) f r)
+-- the bytes of a chain, where its records are left as they were, but for links and for what lies before o in the first
+pub gather-same : (m w : Mem) (f r o n : ℕ) → 2 ≤ o → Apart (walk (link m) f r) → walk (link w) f r ≡ walk (link m) f r
+    → ((s q : ℕ) → q < 64 → 2 ≤ q → 0 < cnt s (walk (link m) f r) → (s ≡ r → o ≤ q) → w s q ≡ m s q) → gather w f r o n ≡ gather m f r o n
+gather-same m w zero r o n lo a e h = refl
+gather-same m w (suc zero) r o n lo a e h = ap (λ t. t ++ []) (cut-same m w r o (min n (64 - o)) (λ q i j. h r q (omega arith) (omega arith) (cnt-first r []) (λ _. i)))
+gather-same m w (suc (suc f)) r o n lo a e h =
+    let T = walk (link m) (suc f) (link m r) in
+    let d : cut w r o (min n (64 - o)) ≡ cut m r o (min n (64 - o)) = cut-same m w r o (min n (64 - o)) (λ q i j. h r q (omega arith) (omega arith) (cnt-first r T) (λ _. i)) in
+    let g : link w r ≡ link m r = cc in
+    let t : walk (link w) (suc f) (link m r) ≡ T = cc in
+    let i = gather-same m w (suc f) (link m r) 2 (n - (64 - o)) (omega arith) (apart-rest r T a) t
+    (λ s q l u x _. h s q l u (omega arith) (λ z. absurd (let y = apart-first r T a in let v = ap (λ t. cnt t T) z in omega arith))) in
+    ap (λ t. cut w r o (min n (64 - o)) ++ gather w (suc f) t 2 (n - (64 - o))) g ∙ (λ j. d j ++ i j)
+
+-- a chain whose records are left as they were, but for what lies between 2 and o in the first
+pub chain-same : (m w : Mem) (f r o n : ℕ) → 2 ≤ o → Apart (walk (link m) f r)
     → ((s q : ℕ) → q < 64 → 0 < cnt s (walk (link m) f r) → (s ≡ r → (q < 2) ⊎ (o ≤ q)) → w s q ≡ m s q)
     → (walk (link w) f r ≡ walk (link m) f r) × (gather w f r o n ≡ gather m f r o n)
-chain-same m w zero r o n a h = (refl, refl)
-chain-same m w (suc f) r o n a h =
-    let T = walk (link m) f (link m r) in
-    let c = cnt-first r T in
-    let e : link w r ≡ link m r = link-same m w r (h r 0 (omega arith) c (λ _. inl (omega arith))) (h r 1 (omega arith) c (λ _. inl (omega arith))) in
-    let d : cut w r o (min n (64 - o)) ≡ cut m r o (min n (64 - o)) = cut-same m w r o (min n (64 - o)) (λ q i j. h r q (omega arith) c (λ _. inr i)) in
-    let i = chain-same m w f (link m r) 2 (n - (64 - o)) (apart-rest r T a)
-    (λ s q l x y. h s q l (omega arith) (λ z. absurd (let u = apart-first r T a in let v = ap (λ t. cnt t T) z in omega arith))) in (
-      ap (λ t. r ∷ walk (link w) f t) e ∙ ap (λ t. r ∷ t) (i .0),
-      ap (λ t. cut w r o (min n (64 - o)) ++ gather w f t 2 (n - (64 - o))) e ∙ ap (λ t. t ++ gather w f (link m r) 2 (n - (64 - o))) d ∙ ap (λ t. cut m r o (min n (64 - o)) ++ t) (i .1),
-    )
+chain-same m w f r o n lo a h =
+    let e = walk-keep (link m) (link w) f r (λ s c. link-same m w s (h s 0 (omega arith) c (λ _. inl (omega arith))) (h s 1 (omega arith) c (λ _. inl (omega arith)))) in
+    (e, gather-same m w f r o n lo a e (λ s q l u c i. h s q l c (λ z. inr (i z))))
 
 pub pack-same : (m w : Mem) (h : ℕ) → Apart (pack m h .2)
     → ((s q : ℕ) → q < 64 → 0 < cnt s (pack m h .2) → (s ≡ h → (q < 2) ⊎ (4 ≤ q)) → w s q ≡ m s q) → pack w h ≡ pack m h
@@ -37,7 +44,7 @@ pack-same m w h a k =
     let x : (q : ℕ) → q < 64 → 4 ≤ q → w h q ≡ m h q = λ q l u. k h q l (cnt-first h (walk (link m) ((size m h - 54 + 61) / 62) (link m h))) (λ _. inr u) in
     let n : number w h ≡ number m h = cc (x 4 (omega arith) (omega arith), x 5 (omega arith) (omega arith), x 6 (omega arith) (omega arith), x 7 (omega arith) (omega arith)) in
     let z : size w h ≡ size m h = cc (x 8 (omega arith) (omega arith), x 9 (omega arith) (omega arith)) in
-    let c = chain-same m w f h 10 (size m h) a (λ s q l t y. k s q l t (λ e. ⊎-elim (λ u. inl u) (λ u. inr (omega arith)) (y e))) in
+    let c = chain-same m w f h 10 (size m h) (omega arith) a (λ s q l t y. k s q l t (λ e. ⊎-elim (λ u. inl u) (λ u. inr (omega arith)) (y e))) in
     let g : gather w (span 10 (size w h)) h 10 (size w h) ≡ gather m f h 10 (size m h) = ap (λ t. gather w (span 10 t) h 10 t) z ∙ c .1 in
     let v : walk (link w) (span 10 (size w h)) h ≡ walk (link m) f h = ap (λ t. walk (link w) (span 10 t) h) z ∙ c .0 in
     λ i. (n i, g i, v i)

@@ -1,12 +1,12 @@
 -- A region in which every record is free.
-use mathlib.Core.Path.{_≡_, refl, ap}
+use mathlib.Core.Path.{_≡_, refl, _∙_, ap}
 use mathlib.Core.List.{List, []}
 use mathlib.Core.Logic.{_⊎_, ⊎-elim}
 use Prim.Native.Nat.{ℕ, zero, suc, _+_, _-_, _*_, _≤_, _<_}
 use native.Mathlib.Omega.{arith}
 use lib.ListN.{length}
 use Rattle.std.proofs.shelf.Tests.{cases-eq}
-use Rattle.chain_shelf.specs.Records.{mem, records, link, next, tail, in-use, walk, hit, cnt}
+use Rattle.chain_shelf.specs.Records.{mem, records, link, next, tail, in-use, walk, hit, cnt, last}
 use Rattle.chain_shelf.specs.Chain.{held, Sound}
 use Rattle.chain_shelf.proofs.Fills.{hit-same, hit-not}
 use Rattle.chain_shelf.proofs.Sounds.{sound-of}
@@ -28,11 +28,18 @@ row g R (suc (suc n)) r l h q =
     (omega arith, λ x. (omega arith, omega arith)))
     (λ (e : q ≡ r → ⊥). let z = hit-not q r e in (omega arith, λ x. let k = j (omega arith) in (omega (arith, k .0), omega (arith, k .1)))) (cases-eq q r)
 
-pub fresh-sound : (b : List ℕ) → length b ≡ 64 * records b → 26 ≤ records b → records b ≤ 65535 → next (mem b) 0 ≡ 0 → tail (mem b) ≡ 0 → in-use (mem b) ≡ 0 → ((s : ℕ) → s + 1 < records b → link (mem b) s ≡ s + 1) → Sound b × (held b ≡ [])
-fresh-sound b w l u z t c h =
+row-last : (g : ℕ → ℕ) (R n r q : ℕ) → r + n < R → ((s : ℕ) → s + 1 < R → g s ≡ s + 1) → last q (walk g (suc n) r) ≡ r + n
+row-last g R zero r q l h = let e : r ≡ r + 0 = omega arith in e
+row-last g R (suc n) r q l h =
+    let e = ap (λ t. last r (walk g (suc n) t)) (h r (omega arith)) in
+    let i = row-last g R n (r + 1) r (omega arith) h in
+    omega arith
+
+pub fresh-sound : (b : List ℕ) → length b ≡ 64 * records b → 26 ≤ records b → records b ≤ 65535 → next (mem b) 0 ≡ 0 → tail (mem b) ≡ 0 → in-use (mem b) ≡ 0 → ((s : ℕ) → s + 1 < records b → link (mem b) s ≡ s + 1) → link (mem b) (records b - 1) ≡ 0 → Sound b × (held b ≡ [])
+fresh-sound b w l u z t c h e =
     let g = link (mem b) in
     let R = records b in
     let f : walk g (R - 1 - 0) (g 0) ≡ walk g (R - 1) 1 = let a : g 0 ≡ 1 = h 0 (omega arith) in let e : R - 1 - 0 ≡ R - 1 = omega arith in (λ i. walk g (e i) (a i)) in
     let x = row g R (R - 1) 1 (omega arith) h in
     sound-of b [] [] (walk g (R - 1) 1) w l u z refl (omega arith) f
-    (λ q. let y = x q .0 in omega arith) (λ q i. let y = x q .1 (omega arith) in (omega (arith, y .0), omega (arith, y .1))) t c tt tt
+    (λ q. let y = x q .0 in omega arith) (λ q i. let y = x q .1 (omega arith) in (omega (arith, y .0), omega (arith, y .1))) (let a = ap g (ap (λ n. last 0 (walk g n 1)) (let y : R - 1 ≡ suc (R - 2) = omega arith in y) ∙ row-last g R (R - 2) 1 0 (omega arith) h ∙ (let y : 1 + (R - 2) ≡ R - 1 = omega arith in y)) in omega arith) t c tt tt

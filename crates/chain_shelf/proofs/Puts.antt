@@ -7,22 +7,25 @@ use Prim.Native.Nat.{ℕ, _^_, zero, suc, _+_, _-_, _/_, _≤_, _<_}
 use native.Mathlib.Omega.{arith}
 use lib.ListN.{length}
 use Rattle.std.proofs.shelf.Tests.{cases-eq}
-use Rattle.chain_shelf.specs.Records.{Mem, mem, records, link, next, number, size, tail, in-use, span, walk, ahead, gather, hit, cnt, heads, Apart, Inside, under, rest, last}
+use Rattle.chain_shelf.specs.Records.{Mem, mem, records, link, next, number, size, tail, in-use, span, walk, gather, hit, cnt, heads, Apart, Inside, under, rest, last}
 use Rattle.shelf.specs.Store.{units, Up, Sized, has, insert}
-use Rattle.chain_shelf.specs.Chain.{pack, layout, packets, tally, packs, held, spent, free, Seg, Sound, LaidIn}
+use Rattle.chain_shelf.specs.Chain.{pack, layout, packets, tally, loose, packs, held, spent, free, Seg, Sound, LaidIn}
 use Rattle.chain_shelf.proofs.Fills.{hit-not, cnt-first}
-use Rattle.chain_shelf.proofs.Counts.{cnt-append, tally-append, layout-append, packets-append, walk-split, walk-keep, last-in}
+use Rattle.chain_shelf.proofs.Counts.{cnt-append, tally-append, layout-append, packets-append, ahead, ahead-last, walk-split, walk-keep, walk-turn, last-in, last-link, loose-append, loose-keep}
 use Rattle.chain_shelf.proofs.Frames.{layout-same, heads-tally}
 use Rattle.chain_shelf.proofs.Segs.{seg-in, seg-from, seg-end, last-append}
 use Rattle.shelf.proofs.Kept.{up-insert, sized-insert, units-insert}
 use Rattle.chain_shelf.proofs.Places.{place, insert-place}
 use Rattle.chain_shelf.proofs.Sounds.{sound-of}
 
+packs-split : (b : List ℕ) (k : ℕ) → packs b ≡ layout (mem b) (under (mem b) k (heads b)) ++ layout (mem b) (rest (mem b) k (heads b))
+packs-split b k = sym (ap (layout (mem b)) (place (mem b) k (heads b))) ∙ layout-append (mem b) (under (mem b) k (heads b)) (rest (mem b) k (heads b))
+
 pub halves : (b : List ℕ) (k q : ℕ) → tally q (packs b) ≡ tally q (layout (mem b) (under (mem b) k (heads b))) + tally q (layout (mem b) (rest (mem b) k (heads b)))
-halves b k q =
-    sym (ap (λ t. tally q (layout (mem b) t)) (place (mem b) k (heads b)))
-    ∙ ap (tally q) (layout-append (mem b) (under (mem b) k (heads b)) (rest (mem b) k (heads b)))
-    ∙ tally-append q (layout (mem b) (under (mem b) k (heads b))) (layout (mem b) (rest (mem b) k (heads b)))
+halves b k q = ap (tally q) (packs-split b k) ∙ tally-append q (layout (mem b) (under (mem b) k (heads b))) (layout (mem b) (rest (mem b) k (heads b)))
+
+pub loose-halves : (b : List ℕ) (k : ℕ) → loose (mem b) (packs b) ≡ loose (mem b) (layout (mem b) (under (mem b) k (heads b))) + loose (mem b) (layout (mem b) (rest (mem b) k (heads b)))
+loose-halves b k = ap (loose (mem b)) (packs-split b k) ∙ loose-append (mem b) (layout (mem b) (under (mem b) k (heads b))) (layout (mem b) (rest (mem b) k (heads b)))
 
 -- the record before a place is 0 or one of the first records before it
 pub last-of : (t : ℕ) (A : List ℕ) → t ≡ last 0 A → (t ≡ 0 → ⊥) → 0 < cnt t A
@@ -98,11 +101,20 @@ module _ (b d : List ℕ) (k : ℕ) (xs : List ℕ) (s : Sound b) (len : length 
       (λ t q l x y. let o = once t in let i = inside t (omega arith) .0 in
       li .others t q l (omega arith) (λ e. absurd (omega arith)) (λ e. absurd (let u = last-of t A e (λ z. omega arith) in let v = heads-tally m A t in omega arith)))
 
+  stop-in : 0 < cnt (last 0 X) X
+  stop-in = last-in r (walk (link m) ((length xs - 54 + 61) / 62) (link m r))
+
+  links-kept : (t : ℕ) → 0 < sum t → (t ≡ last 0 X → ⊥) → link w t ≡ link m t
+  links-kept t l y = li .links t (λ e. let i = inside t l .0 in omega arith) y
+
+  not-stop : (t : ℕ) → cnt t X ≡ 0 → t ≡ last 0 X → ⊥
+  not-stop t x e = let y = stop-in in let z = ap (λ u. cnt u X) e in omega arith
+
   new : pack w r ≡ (k, xs, X)
   new =
       let z = li .sized in
       let g : gather w (span 10 (size w r)) r 10 (size w r) ≡ xs = ap (λ t. gather w (span 10 t) r 10 t) z ∙ li .bytes in
-      let v : walk (link w) (span 10 (size w r)) r ≡ X = ap (λ t. walk (link w) (span 10 t) r) z ∙ walk-keep (link m) (link w) n r (λ t l. li .links t (λ e. let i = inside t (omega arith) .0 in omega arith)) in
+      let v : walk (link w) (span 10 (size w r)) r ≡ X = ap (λ t. walk (link w) (span 10 t) r) z ∙ walk-turn (link m) (link w) ((length xs - 54 + 61) / 62) r (λ q. let o = once q in omega arith) (λ t l y. links-kept t (omega arith) y) in
       λ i. (li .numbered i, g i, v i)
 
   laid : layout w (A ++ r ∷ B) ≡ layout m A ++ (k, xs, X) ∷ layout m B
@@ -136,6 +148,13 @@ module _ (b d : List ℕ) (k : ℕ) (xs : List ℕ) (s : Sound b) (len : length 
       ∙ seg-end (next m) (last 0 A) r (last 0 A) B (tail m) (seg-from (next m) 0 A B (subst (Seg (next m) 0) (sym h) (s .chain))) (s .ends ∙ sym (ap (last 0) h) ∙ last-append 0 A B)
       ∙ sym (last-append 0 A (r ∷ B))
 
+  marked : loose w (layout m A ++ (k, xs, X) ∷ layout m B) + link w (last 0 Y) ≡ 0
+  marked =
+      let a = loose-keep m w A (λ t l. links-kept t (omega arith) (not-stop t (let o = once t in omega arith))) in
+      let c = loose-keep m w B (λ t l. links-kept t (omega arith) (not-stop t (let o = once t in omega arith))) in
+      let f = last-link (link m) (link w) 0 (last 0 X) Y (li .free) (λ t l. links-kept t (omega arith) (not-stop t (let o = once t in omega arith))) ∙ ap (link m) (sym (ap (last 0) free-is ∙ last-append 0 X Y)) in
+      omega (arith, s .marked, loose-halves b k, loose-append w (layout m A) ((k, xs, X) ∷ layout m B), li .mark)
+
   pub put-sound : Sound d × (held d ≡ insert k xs (held b))
   put-sound =
       let R : records d ≡ records b = ap (λ t. t / 64) len in
@@ -143,11 +162,11 @@ module _ (b d : List ℕ) (k : ℕ) (xs : List ℕ) (s : Sound b) (len : length 
       let u : units (span 10) (packets L) ≡ n + spent b = ap (units (span 10)) goes-in ∙ units-insert (span 10) k xs (held b) in
       let f : walk (link w) (records d - 1 - units (span 10) (packets L)) (link w 0) ≡ Y =
       let e : records d - 1 - units (span 10) (packets L) ≡ F = omega arith in
-      ap (λ t. walk (link w) t (link w 0)) e ∙ ap (walk (link w) F) (li .free)
-      ∙ walk-keep (link m) (link w) F (ahead (link m) n r) (λ t l. li .links t (λ e. let i = inside t (omega arith) .0 in omega arith)) in
+      ap (λ t. walk (link w) t (link w 0)) e ∙ ap (walk (link w) F) (li .free ∙ sym (ahead-last (link m) ((length xs - 54 + 61) / 62) r))
+      ∙ walk-keep (link m) (link w) F (ahead (link m) n r) (λ t l. links-kept t (omega arith) (not-stop t (let o = once t in omega arith))) in
       let c : (q : ℕ) → tally q L + cnt q Y ≡ sum q = λ q. let e = tally-append q (layout m A) ((k, xs, X) ∷ layout m B) in omega arith in
       let z = sound-of d (A ++ r ∷ B) L Y (let h = s .whole in omega arith) (let h = s .least in omega arith) (let h = s .most in omega arith) chain laid (omega arith) f
-      (λ q. omega (arith, c q, once q)) (λ q l. let i = inside q (omega (arith, c q)) in (i .0, omega (arith, i .1))) ends
+      (λ q. omega (arith, c q, once q)) (λ q l. let i = inside q (omega (arith, c q)) in (i .0, omega (arith, i .1))) marked ends
       (let h = s .counted in let i = li .counted in omega arith)
       (subst (Up 0) (sym goes-in) (up-insert 0 k xs (held b) (omega arith) wide (s .rising) absent))
       (subst Sized (sym goes-in) (sized-insert k xs (held b) lo hi (s .sized))) in

@@ -8,7 +8,7 @@ use denote.Struct.Props.{props}
 use lib.ListN.{length}
 use Rattle.chain_shelf.specs.Records.{mem, records, link, next, tail, in-use, span, walk, cnt, heads, last}
 use Rattle.shelf.specs.Store.{Packets, units, Up, Sized}
-use Rattle.chain_shelf.specs.Chain.{Pack, layout, packets, tally, packs, held, spent, free, Seg, Sound, Kept}
+use Rattle.chain_shelf.specs.Chain.{Pack, layout, packets, tally, loose, packs, held, spent, free, Seg, Sound, Kept}
 use Rattle.chain_shelf.proofs.Segs.{seg-trail, heads-units}
 
 seg-prop : (g : ℕ → ℕ) (q : ℕ) (hs : List ℕ) → IsProp (Seg g q hs)
@@ -31,6 +31,7 @@ sound-prop b x y =
     let e : IsProp ((q : ℕ) → tally q (packs b) + cnt q (free b) ≤ 1) = search props in
     let f : IsProp ((q : ℕ) → 0 < tally q (packs b) + cnt q (free b) → (0 < q) × (q < records b)) = search props in
     let g : IsProp (spent b ≤ records b - 1) = search props in
+    let k : IsProp (loose (mem b) (packs b) + link (mem b) (last 0 (free b)) ≡ 0) = search props in
     let h : IsProp (tail (mem b) ≡ last 0 (heads b)) = search props in
     let j : IsProp (in-use (mem b) ≡ spent b) = search props in
     λ i. record {
@@ -40,6 +41,7 @@ sound-prop b x y =
       chain = seg-prop (next (mem b)) 0 (heads b) (x .chain) (y .chain) i;
       once = e (x .once) (y .once) i;
       inside = f (x .inside) (y .inside) i;
+      marked = k (x .marked) (y .marked) i;
       ends = h (x .ends) (y .ends) i;
       counted = j (x .counted) (y .counted) i;
       room = g (x .room) (y .room) i;
@@ -56,9 +58,9 @@ pub sound-of : (b hs : List ℕ) (L : List Pack) (fs : List ℕ)
     → Seg (next (mem b)) 0 hs → layout (mem b) hs ≡ L → units (span 10) (packets L) ≤ records b - 1
     → walk (link (mem b)) (records b - 1 - units (span 10) (packets L)) (link (mem b) 0) ≡ fs
     → ((q : ℕ) → tally q L + cnt q fs ≤ 1) → ((q : ℕ) → 0 < tally q L + cnt q fs → (0 < q) × (q < records b))
-    → tail (mem b) ≡ last 0 hs → in-use (mem b) ≡ units (span 10) (packets L)
+    → loose (mem b) L + link (mem b) (last 0 fs) ≡ 0 → tail (mem b) ≡ last 0 hs → in-use (mem b) ≡ units (span 10) (packets L)
     → Up 0 (packets L) → Sized (packets L) → Sound b × (held b ≡ packets L)
-sound-of b hs L fs wh le mo ch la ro fr on ins en co up si =
+sound-of b hs L fs wh le mo ch la ro fr on ins ma en co up si =
     let n = heads-units (mem b) hs in
     let u : units (span 10) (packets (layout (mem b) hs)) ≡ units (span 10) (packets L) = ap (λ t. units (span 10) (packets t)) la in
     let e : heads b ≡ hs = seg-trail (next (mem b)) 0 (records b) hs ch (omega arith) in
@@ -72,6 +74,7 @@ sound-of b hs L fs wh le mo ch la ro fr on ins en co up si =
         chain = subst (Seg (next (mem b)) 0) (sym e) ch;
         once = λ q. omega (arith, c q, on q);
         inside = λ q l. ins q (omega (arith, c q));
+        marked = cc (ap (loose (mem b)) p, ap (λ t. link (mem b) (last 0 t)) f, ma);
         ends = en ∙ ap (last 0) (sym e);
         counted = co ∙ ap (λ t. units (span 10) (packets t)) (sym p);
         room = subst (λ t. units (span 10) (packets t) ≤ records b - 1) (sym p) ro;

@@ -5,15 +5,15 @@ use mathlib.Core.Logic.{inl}
 use Prim.Native.Nat.{ℕ, _+_, _-_, _/_, _≤_, _<_}
 use native.Mathlib.Omega.{arith}
 use lib.ListN.{length}
-use Rattle.chain_shelf.specs.Records.{Mem, mem, records, link, next, number, size, tail, span, walk, ahead, cnt, heads, Apart, under, rest, last}
+use Rattle.chain_shelf.specs.Records.{Mem, mem, records, link, next, number, size, tail, span, walk, cnt, heads, Apart, under, rest, last}
 use Rattle.shelf.specs.Store.{units, Up, Sized, remove}
-use Rattle.chain_shelf.specs.Chain.{pack, layout, packets, tally, packs, held, spent, free, Seg, Sound, TakenOut}
-use Rattle.chain_shelf.proofs.Counts.{cnt-append, tally-append, layout-append, packets-append, walk-split, walk-keep, last-in, redirect}
+use Rattle.chain_shelf.specs.Chain.{pack, layout, packets, tally, loose, packs, held, spent, free, Seg, Sound, TakenOut}
+use Rattle.chain_shelf.proofs.Counts.{cnt-append, tally-append, layout-append, packets-append, ahead-last, walk-split, walk-keep, walk-turn, last-in, last-link, loose-append, loose-keep}
 use Rattle.chain_shelf.proofs.Frames.{layout-same, heads-tally, link-same, pack-length}
 use Rattle.chain_shelf.proofs.Segs.{seg-out, seg-from, seg-end, last-append}
 use Rattle.shelf.proofs.Kept.{up-remove, sized-remove, units-remove}
 use Rattle.chain_shelf.proofs.Places.{place, remove-place, lookup-place}
-use Rattle.chain_shelf.proofs.Puts.{halves, last-of, heads-apart}
+use Rattle.chain_shelf.proofs.Puts.{halves, loose-halves, last-of, heads-apart}
 use Rattle.chain_shelf.proofs.Sounds.{sound-of}
 
 module _ (b d : List ℕ) (k h : ℕ) (B : List ℕ) (s : Sound b) (len : length d ≡ length b) (is : rest (mem b) k (heads b) ≡ h ∷ B) (num : number (mem b) h ≡ k)
@@ -99,14 +99,24 @@ module _ (b d : List ℕ) (k h : ℕ) (B : List ℕ) (s : Sound b) (len : length
   chain =
       seg-out (next m) (next w) 0 A B h was (subst (λ t. Apart (0 ∷ t)) split (heads-apart b s)) (to .prev) (λ t _ y. next-same t y)
 
-  turned : (walk (link w) n h ≡ X) × (ahead (link w) n h ≡ link w l)
-  turned = redirect (link m) (link w) ((size m h - 54 + 61) / 62) h (λ q. let o = once q in omega arith) (λ t x y. link-kept t (omega arith) y)
+  turned : walk (link w) n h ≡ X
+  turned = walk-turn (link m) (link w) ((size m h - 54 + 61) / 62) h (λ q. let o = once q in omega arith) (λ t x y. link-kept t (omega arith) y)
+
+  free-kept : (t : ℕ) → 0 < cnt t Y → link w t ≡ link m t
+  free-kept t x = link-kept t (omega arith) (not-l t (let o = once t in omega arith))
+
+  marked : loose w (layout m A ++ layout m B) + link w (last 0 (X ++ Y)) ≡ 0
+  marked =
+      let a = loose-keep m w A (λ t x. link-kept t (omega arith) (not-l t (let o = once t in omega arith))) in
+      let c = loose-keep m w B (λ t x. link-kept t (omega arith) (not-l t (let o = once t in omega arith))) in
+      let f = ap (link w) (last-append 0 X Y) ∙ last-link (link m) (link w) l 0 Y (to .back) free-kept in
+      omega (arith, s .marked, loose-halves b k ∙ ap (λ t. loose m (layout m A) + loose m (layout m t)) is, loose-append w (layout m A) (layout m B))
 
   freed : walk (link w) (n + F) (link w 0) ≡ X ++ Y
   freed =
       ap (walk (link w) (n + F)) (to .free) ∙ walk-split (link w) n F h
-      ∙ (λ i. turned .0 i ++ walk (link w) F ((turned .1 ∙ to .back) i))
-      ∙ ap (λ t. X ++ t) (walk-keep (link m) (link w) F (link m 0) (λ t x. link-kept t (omega arith) (not-l t (let o = once t in omega arith))))
+      ∙ (λ i. turned i ++ walk (link w) F ((ahead-last (link w) ((size m h - 54 + 61) / 62) h ∙ ap (λ t. link w (last h t)) turned ∙ to .back) i))
+      ∙ ap (λ t. X ++ t) (walk-keep (link m) (link w) F (link m 0) free-kept)
 
   pub take-sound : Sound d × (held d ≡ remove k (held b))
   take-sound =
@@ -121,7 +131,7 @@ module _ (b d : List ℕ) (k h : ℕ) (B : List ℕ) (s : Sound b) (len : length
       ap (λ t. walk (link w) t (link w 0)) e ∙ freed in
       let c : (q : ℕ) → tally q L + cnt q (X ++ Y) ≡ sum q = λ q. let e = tally-append q (layout m A) (layout m B) in let a = cnt-append q X Y in omega arith in
       let y = sound-of d (A ++ B) L (X ++ Y) (let i = s .whole in omega arith) (let i = s .least in omega arith) (let i = s .most in omega arith) chain laid (omega arith) f
-      (λ q. omega (arith, c q, once q)) (λ q x. let i = inside q (omega (arith, c q)) in (i .0, omega (arith, i .1))) ends
+      (λ q. omega (arith, c q, once q)) (λ q x. let i = inside q (omega (arith, c q)) in (i .0, omega (arith, i .1))) marked ends
       (let i = s .counted in let j = to .counted in omega arith)
       (subst (Up 0) (sym goes-out) (up-remove 0 k (held b) (s .rising)))
       (subst Sized (sym goes-out) (sized-remove k (held b) (s .sized))) in

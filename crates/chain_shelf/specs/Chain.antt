@@ -6,7 +6,7 @@ use Prim.Native.Nat.{ℕ, _+_, _-_, _*_, _/_, _≤_, _<_}
 use mathlib.Core.Bool.{cond}
 use lib.Dec.{eqb}
 use lib.ListN.{length}
-use Rattle.chain_shelf.specs.Records.{Mem, mem, records, link, next, number, size, tail, in-use, span, walk, gather, cnt, heads, ahead, under, last}
+use Rattle.chain_shelf.specs.Records.{Mem, mem, records, link, next, number, size, tail, in-use, span, walk, gather, cnt, heads, under, last}
 use Rattle.shelf.specs.Store.{Packets, Store, units, Up, Sized}
 
 -- a packet: number, bytes, records
@@ -28,6 +28,11 @@ packets (x ∷ l) = (x .0, x .1) ∷ packets l
 abbrev pub tally : ℕ → List Pack → ℕ
 tally q [] = 0
 tally q (x ∷ l) = cnt q (x .2) + tally q l
+
+-- the links that the last records of packets have, added up
+abbrev pub loose : Mem → List Pack → ℕ
+loose m [] = 0
+loose m (x ∷ l) = link m (last 0 (x .2)) + loose m l
 
 abbrev pub packs : List ℕ → List Pack
 packs b = layout (mem b) (heads b)
@@ -53,6 +58,7 @@ pub record Sound (b : List ℕ) : Type 0 where
   pub chain : Seg (next (mem b)) 0 (heads b)
   pub once : (q : ℕ) → tally q (packs b) + cnt q (free b) ≤ 1
   pub inside : (q : ℕ) → 0 < tally q (packs b) + cnt q (free b) → (0 < q) × (q < records b)
+  pub marked : loose (mem b) (packs b) + link (mem b) (last 0 (free b)) ≡ 0
   pub ends : tail (mem b) ≡ last 0 (heads b)
   pub counted : in-use (mem b) ≡ spent b
   pub room : spent b ≤ records b - 1
@@ -79,8 +85,9 @@ pub record LaidIn (m w : Mem) (p k : ℕ) (xs : List ℕ) : Type 0 where
   pub numbered : number w (link m 0) ≡ k
   pub sized : size w (link m 0) ≡ length xs
   pub bytes : gather w (span 10 (length xs)) (link m 0) 10 (length xs) ≡ xs
-  pub free : link w 0 ≡ ahead (link m) (span 10 (length xs)) (link m 0)
-  pub links : (s : ℕ) → (s ≡ 0 → ⊥) → link w s ≡ link m s
+  pub free : link w 0 ≡ link m (last 0 (walk (link m) (span 10 (length xs)) (link m 0)))
+  pub mark : link w (last 0 (walk (link m) (span 10 (length xs)) (link m 0))) ≡ 0
+  pub links : (s : ℕ) → (s ≡ 0 → ⊥) → (s ≡ last 0 (walk (link m) (span 10 (length xs)) (link m 0)) → ⊥) → link w s ≡ link m s
   pub others : (s q : ℕ) → q < 64 → cnt s (walk (link m) (span 10 (length xs)) (link m 0)) ≡ 0 → (s ≡ 0 → (2 ≤ q) × (q < 4)) → (s ≡ p → (q < 2) ⊎ (4 ≤ q)) → w s q ≡ m s q
 
 -- what taking the packet behind the one at p out changes: its first record is h, its last one l

@@ -54,11 +54,6 @@ abbrev pub walk : (ℕ → ℕ) → ℕ → ℕ → List ℕ
 walk g zero s = []
 walk g (suc n) s = s ∷ walk g n (g s)
 
--- the record n steps behind s
-abbrev pub ahead : (ℕ → ℕ) → ℕ → ℕ → ℕ
-ahead g zero s = s
-ahead g (suc n) s = ahead g n (g s)
-
 -- n bytes through f records, from o on in the first
 abbrev pub gather : Mem → ℕ → ℕ → ℕ → ℕ → List ℕ
 gather m zero r o n = []

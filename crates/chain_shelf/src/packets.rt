@@ -91,7 +91,9 @@ fn lay_packet(bytes: &mut [u8], prev: usize, number: u32, packet: &[u8])
     let last = end_of(bytes, after, first);
     let used = read(bytes, 0, USED) + span_of(packet.len());
     head(bytes, first, after, number, packet.len());
-    let free = fill(bytes, first, BODY, packet);
+    let stop = fill(bytes, first, BODY, packet);
+    let free = read(bytes, stop, LINK);
+    write(bytes, stop, LINK, 0);
     lead(bytes, free, last, used);
     write(bytes, prev, NEXT, first);
 }

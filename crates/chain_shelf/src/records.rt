@@ -3,7 +3,7 @@ ghost use mathlib.Core.Path.{_≡_};
 ghost use mathlib.Core.Logic.{_⊎_};
 ghost use Prim.Native.Nat.{ℕ, _+_, _-_, _*_, _<_, _≤_, _/_, _%_};
 ghost use lib.ListN.{length};
-ghost use Rattle.chain_shelf.specs.Records.{mem, records, word, link, number, cut, span, walk, ahead, gather, cnt, Apart, Inside, last};
+ghost use Rattle.chain_shelf.specs.Records.{mem, records, word, link, number, cut, span, walk, gather, cnt, Apart, Inside, last};
 ghost use Rattle.chain_shelf.specs.Chain.{Kept, Before};
 use crate::region::RECORD;
 
@@ -56,7 +56,7 @@ pub fn lay_in(bytes: &mut [u8], r: usize, o: usize, part: &[u8])
     bytes[at..at + part.len()].copy_from_slice(part);
 }
 
-/// Writes bytes through a chain of records, and says which record comes after the last.
+/// Writes bytes through a chain of records, and says which record is the last.
 pub fn fill(bytes: &mut [u8], r: usize, o: usize, part: &[u8]) -> usize
     requires low { ⌜ 2 ≤ o ⌝ }
     requires high { ⌜ o < 64 ⌝ }
@@ -64,14 +64,14 @@ pub fn fill(bytes: &mut [u8], r: usize, o: usize, part: &[u8]) -> usize
     requires apart { ⌜ Apart (walk (link (mem (now bytes))) (span o (length (now part))) r) ⌝ }
     requires inside { ⌜ Inside (records (now bytes)) (walk (link (mem (now bytes))) (span o (length (now part))) r) ⌝ }
     ensures laid { λ _. ⌜ gather (mem (now (bytes .exit))) (span o (length (now (part .entry)))) r o (length (now (part .entry))) ≡ now (part .entry) ⌝ }
-    ensures small { λ v. ⌜ v < 65536 ⌝ }
-    ensures after { λ v. ⌜ v ≡ ahead (link (mem (now (bytes .entry)))) (span o (length (now (part .entry)))) r ⌝ }
+    ensures last { λ v. ⌜ v ≡ last r (walk (link (mem (now (bytes .entry)))) (span o (length (now (part .entry)))) r) ⌝ }
+    ensures within { λ v. ⌜ v < records (now (bytes .entry)) ⌝ }
     ensures others { λ _. ⌜ ((s q : ℕ) → q < 64 → (0 < cnt s (walk (link (mem (now (bytes .entry)))) (span o (length (now (part .entry)))) r) → (q < 2) ⊎ ((s ≡ r) × (q < o))) → mem (now (bytes .exit)) s q ≡ mem (now (bytes .entry)) s q) ⌝ }
 {
     let room = RECORD - o;
     if part.len() <= room {
         lay_in(bytes, r, o, part);
-        return read(bytes, r, LINK);
+        return r;
     }
     lay_in(bytes, r, o, &part[0..room]);
     let after = read(bytes, r, LINK);

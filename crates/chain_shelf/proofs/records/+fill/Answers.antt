@@ -4,8 +4,8 @@ use Prim.Native.Nat.{ℕ, _<_, _≤_, _-_, _+_, _/_}
 use native.Mathlib.Omega.{arith}
 use lib.ListN.{length, take, drop}
 use Rattle.std.proofs.shelf.Lists.{take-rest, length-take-le, length-drop}
-use Rattle.chain_shelf.specs.Records.{mem, records, cut, link, span, walk, Apart, Inside}
-use Rattle.chain_shelf.proofs.Fills.{walk-more, ahead-more, fill-data, fill-others, apart-rest, inside-rest, cnt-first}
+use Rattle.chain_shelf.specs.Records.{mem, records, cut, link, span, walk, Apart, Inside, last}
+use Rattle.chain_shelf.proofs.Fills.{walk-more, fill-data, fill-others, apart-rest, inside-rest, cnt-first}
 use Rattle.chain_shelf.proofs.records.+fill.Needs as need
 
 pub fill-requires : need.fill-requires
@@ -43,7 +43,7 @@ returns t c =
     let d : cut v r o (64 - o) ≡ take (64 - o) p = sym (ap (cut v r o) h) ∙ c .lay-in-2 .ensures .there ∙ k in
     record {
       laid = fill-data m v w r o (length p) (length P) a p (omega arith) (omega arith) (omega arith) n (c .read-after .ensures .is) (c .pre .apart) f (c .fill .ensures .others) d (c .fill .ensures .laid ∙ take-rest p (64 - o));
-      small = c .fill .ensures .small;
-      after = c .fill .ensures .after ∙ sym (ahead-more m v w r o (length p) (length P) a p (omega arith) (omega arith) (omega arith) n (c .read-after .ensures .is) (c .pre .apart) f);
+      last = c .fill .ensures .last ∙ sym (ap (last r) (walk-more m v w r o (length p) (length P) a p (omega arith) (omega arith) (omega arith) n (c .read-after .ensures .is) (c .pre .apart) f));
+      within = let z = c .fill .ensures .within in let y = c .lay-in-2 .kept .bytes in omega arith;
       others = fill-others m v w r o (length p) (length P) a p (omega arith) (omega arith) (omega arith) n (c .read-after .ensures .is) (c .pre .apart) f (c .fill .ensures .others);
     }
