@@ -24,7 +24,7 @@ pub heads-below : (b : List ℕ) → Sound b → Below (records b) (heads b)
 heads-below b s = below-from (records b) (heads b) (λ q l. let t = heads-tally (mem b) (heads b) q in s .inside q (omega arith) .1)
 
 pub tail-below : (b : List ℕ) → Sound b → tail (mem b) < records b
-tail-below b s = let l = s .least in let h = below-last (records b) 0 (heads b) (omega arith) (heads-below b s) in omega (arith, s .ends)
+tail-below b s = let l = s .room in let h = below-last (records b) 0 (heads b) (omega arith) (heads-below b s) in omega (arith, s .ends)
 
 -- where the last packet's number is below k, so are the others
 under-all : (m : Mem) (k a h : ℕ) (hs : List ℕ) → Up a (packets (layout m (h ∷ hs))) → number m (last h hs) < k → (number m h < k) × (under m k (h ∷ hs) ≡ h ∷ hs)

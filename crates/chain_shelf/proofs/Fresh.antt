@@ -35,11 +35,11 @@ row-last g R (suc n) r q l h =
     let i = row-last g R n (r + 1) r (omega arith) h in
     omega arith
 
-pub fresh-sound : (b : List ℕ) → length b ≡ 64 * records b → 26 ≤ records b → records b ≤ 65535 → next (mem b) 0 ≡ 0 → tail (mem b) ≡ 0 → in-use (mem b) ≡ 0 → ((s : ℕ) → s + 1 < records b → link (mem b) s ≡ s + 1) → link (mem b) (records b - 1) ≡ 0 → Sound b × (held b ≡ [])
-fresh-sound b w l u z t c h e =
+pub fresh-sound : (b : List ℕ) → 26 ≤ records b → next (mem b) 0 ≡ 0 → tail (mem b) ≡ 0 → in-use (mem b) ≡ 0 → ((s : ℕ) → s + 1 < records b → link (mem b) s ≡ s + 1) → link (mem b) (records b - 1) ≡ 0 → Sound b × (held b ≡ [])
+fresh-sound b l z t c h e =
     let g = link (mem b) in
     let R = records b in
     let f : walk g (R - 1 - 0) (g 0) ≡ walk g (R - 1) 1 = let a : g 0 ≡ 1 = h 0 (omega arith) in let e : R - 1 - 0 ≡ R - 1 = omega arith in (λ i. walk g (e i) (a i)) in
     let x = row g R (R - 1) 1 (omega arith) h in
-    sound-of b [] [] (walk g (R - 1) 1) w l u z refl (omega arith) f
+    sound-of b [] [] (walk g (R - 1) 1) z refl (omega arith) f
     (λ q. let y = x q .0 in omega arith) (λ q i. let y = x q .1 (omega arith) in (omega (arith, y .0), omega (arith, y .1))) (let a = ap g (ap (λ n. last 0 (walk g n 1)) (let y : R - 1 ≡ suc (R - 2) = omega arith in y) ∙ row-last g R (R - 2) 1 0 (omega arith) h ∙ (let y : 1 + (R - 2) ≡ R - 1 = omega arith in y)) in omega arith) t c tt tt

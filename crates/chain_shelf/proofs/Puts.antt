@@ -165,7 +165,7 @@ module _ (b d : List ℕ) (k : ℕ) (xs : List ℕ) (s : Sound b) (len : length 
       ap (λ t. walk (link w) t (link w 0)) e ∙ ap (walk (link w) F) (li .free ∙ sym (ahead-last (link m) ((length xs - 54 + 61) / 62) r))
       ∙ walk-keep (link m) (link w) F (ahead (link m) n r) (λ t l. links-kept t (omega arith) (not-stop t (let o = once t in omega arith))) in
       let c : (q : ℕ) → tally q L + cnt q Y ≡ sum q = λ q. let e = tally-append q (layout m A) ((k, xs, X) ∷ layout m B) in omega arith in
-      let z = sound-of d (A ++ r ∷ B) L Y (let h = s .whole in omega arith) (let h = s .least in omega arith) (let h = s .most in omega arith) chain laid (omega arith) f
+      let z = sound-of d (A ++ r ∷ B) L Y chain laid (let h = s .room in omega arith) f
       (λ q. omega (arith, c q, once q)) (λ q l. let i = inside q (omega (arith, c q)) in (i .0, omega (arith, i .1))) marked ends
       (let h = s .counted in let i = li .counted in omega arith)
       (subst (Up 0) (sym goes-in) (up-insert 0 k xs (held b) (omega arith) wide (s .rising) absent))

@@ -130,7 +130,7 @@ module _ (b d : List ℕ) (k h : ℕ) (B : List ℕ) (s : Sound b) (len : length
       let e : records d - 1 - units (span 10) (packets L) ≡ n + F = omega arith in
       ap (λ t. walk (link w) t (link w 0)) e ∙ freed in
       let c : (q : ℕ) → tally q L + cnt q (X ++ Y) ≡ sum q = λ q. let e = tally-append q (layout m A) (layout m B) in let a = cnt-append q X Y in omega arith in
-      let y = sound-of d (A ++ B) L (X ++ Y) (let i = s .whole in omega arith) (let i = s .least in omega arith) (let i = s .most in omega arith) chain laid (omega arith) f
+      let y = sound-of d (A ++ B) L (X ++ Y) chain laid (omega arith) f
       (λ q. omega (arith, c q, once q)) (λ q x. let i = inside q (omega (arith, c q)) in (i .0, omega (arith, i .1))) marked ends
       (let i = s .counted in let j = to .counted in omega arith)
       (subst (Up 0) (sym goes-out) (up-remove 0 k (held b) (s .rising)))

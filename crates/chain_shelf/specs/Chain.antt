@@ -52,25 +52,26 @@ Seg g q [] = g q ≡ 0
 Seg g q (h ∷ hs) = (g q ≡ h) × (h ≡ 0 → ⊥) × Seg g h hs
 
 pub record Sound (b : List ℕ) : Type 0 where
-  pub whole : length b ≡ 64 * records b
-  pub least : 26 ≤ records b
-  pub most : records b ≤ 65535
   pub chain : Seg (next (mem b)) 0 (heads b)
   pub once : (q : ℕ) → tally q (packs b) + cnt q (free b) ≤ 1
   pub inside : (q : ℕ) → 0 < tally q (packs b) + cnt q (free b) → (0 < q) × (q < records b)
   pub marked : loose (mem b) (packs b) + link (mem b) (last 0 (free b)) ≡ 0
   pub ends : tail (mem b) ≡ last 0 (heads b)
   pub counted : in-use (mem b) ≡ spent b
-  pub room : spent b ≤ records b - 1
+  pub room : spent b < records b
   pub rising : Up 0 (held b)
   pub sized : Sized (held b)
 
 abbrev pub store : List ℕ → Store
 store b = record { held = held b; total = records b - 1; price = span 10 }
 
--- the same, as a fact that a struct can keep
+-- 26 to 65,535 whole records
+abbrev pub Whole : List ℕ → Type 0
+Whole b = (length b ≡ 64 * records b) × (26 ≤ records b) × (records b ≤ 65535)
+
+-- what a shelf keeps of its region
 abbrev pub Kept : List ℕ → Type 0
-Kept b = ∥ Sound b ∥₁
+Kept b = Whole b × ∥ Sound b ∥₁
 
 -- the last packet's first record: x where no packet comes after it, else as it was
 abbrev pub end : ℕ → ℕ → ℕ → ℕ

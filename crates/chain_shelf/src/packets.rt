@@ -8,7 +8,7 @@ ghost use lib.ListN.{length};
 ghost use Rattle.std.specs.declared.option.Option.the-variants.{Some};
 ghost use Rattle.chain_shelf.specs.Records.{mem, records, link, next, number as number-of, size as size-of, tail, in-use, span, walk, cnt, Apart, Inside};
 ghost use Rattle.shelf.specs.Store.{has, insert, remove, lookup, above, length-of, written, right};
-ghost use Rattle.chain_shelf.specs.Chain.{held, spent, end, Prices-worked, Kept, Before, LaidIn, TakenOut};
+ghost use Rattle.chain_shelf.specs.Chain.{held, spent, end, Prices-worked, Whole, Kept, Before, LaidIn, TakenOut};
 use crate::records::BODY;
 use crate::records::LAST;
 use crate::records::LINK;
@@ -204,9 +204,7 @@ pub fn used_in(bytes: &[u8]) -> u32
 
 /// Frees every record, in order.
 pub fn free_all(bytes: &mut [u8])
-    requires whole { ⌜ length (now bytes) ≡ 64 * records (now bytes) ⌝ }
-    requires least { ⌜ 26 ≤ records (now bytes) ⌝ }
-    requires most { ⌜ records (now bytes) ≤ 65535 ⌝ }
+    requires { ⌜ Whole (now bytes) ⌝ }
     ensures kept { λ _. ⌜ Kept (now (bytes .exit)) ⌝ }
     ensures held { λ _. ⌜ held (now (bytes .exit)) ≡ [] ⌝ }
 {

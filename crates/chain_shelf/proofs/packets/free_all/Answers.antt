@@ -6,6 +6,7 @@ use lib.ListN.{length}
 use Rattle.std.proofs.shelf.Tests.{cases-eq}
 use Rattle.chain_shelf.specs.Records.{mem, records, link, next}
 use Rattle.chain_shelf.proofs.Frames.{link-same}
+use Rattle.chain_shelf.proofs.Sounds.{closed}
 use Rattle.chain_shelf.proofs.Fresh.{fresh-sound}
 use Rattle.chain_shelf.proofs.packets.free_all.Needs as need
 
@@ -19,14 +20,14 @@ returns c =
     let R : records d ≡ records b = ap (λ t. t / 64) e in
     let o = c .lead .ensures .others in
     let p = c .write-2 .ensures .others in
-    let a = c .pre .least in
+    let a = c .pre .1 in
     let k : (s : ℕ) → (s ≡ 0 → ⊥) → link (mem d) s ≡ link (mem v) s = λ s a.
     link-same (mem w) (mem d) s (o s 0 (omega arith) (λ y. absurd (a y))) (o s 1 (omega arith) (λ y. absurd (a y)))
     ∙ link-same (mem v) (mem w) s (p s 0 (omega arith) (λ _ y _. omega arith)) (p s 1 (omega arith) (λ _ y _. omega arith)) in
-    let z = fresh-sound d (let w = c .pre .whole in omega arith) (omega arith) (let w = c .pre .most in omega arith)
+    let z = fresh-sound d (omega arith)
     (cc (o 0 2 (omega arith) (λ _. (omega arith, omega arith)), o 0 3 (omega arith) (λ _. (omega arith, omega arith)), c .write-2 .ensures .there)) (c .lead .ensures .last) (c .lead .ensures .used)
     (λ s l. ⊎-elim (λ (a : s ≡ 0). ap (link (mem d)) a ∙ c .lead .ensures .free ∙ (let y : 1 ≡ s + 1 = omega arith in y))
     (λ (a : s ≡ 0 → ⊥). k s a ∙ c .loop-r .inv s (omega arith) (omega arith) .0 (omega arith))
     (cases-eq s 0))
     (k (records d - 1) (λ y. omega arith) ∙ c .loop-r .inv (records d - 1) (omega arith) (omega arith) .1 (omega arith)) in
-    record { kept = ∣ z .0 ∣₁; held = z .1 }
+    record { kept = closed b d (c .pre) e (z .0); held = z .1 }

@@ -15,7 +15,7 @@ use Rattle.chain_shelf.proofs.Finds.{present, at-inside, walk-inside, size-mos
 use Rattle.chain_shelf.proofs.Places.{lookup-place}
 use Rattle.shelf.proofs.Kept.{units-remove}
 use Rattle.chain_shelf.proofs.Takes.{take-sound}
-use Rattle.chain_shelf.proofs.Sounds.{opened}
+use Rattle.chain_shelf.proofs.Sounds.{opened, closed}
 use Rattle.chain_shelf.proofs.packets.take_behind.Needs as need
 
 pub read-size-requires : need.read-size-requires
@@ -67,7 +67,7 @@ unlink-requires c κs =
     let x = ap (span 10) (pack-length (mem b) h) in
     let u = s .counted in
     record {
-      most = s .most;
+      most = c .pre .kept .0 .2;
       prev = c .pre .prev .within;
       first = at-inside b (c .args .number) h (f .0) s (f .1) .1;
       stop = omega (arith, l, i .1);
@@ -97,7 +97,7 @@ returns c =
     let x : c .copy-stop .last .buffer ≡ p = c .copy-stop .ensures .laid ∙ ap (λ t. gather (mem b) (span 10 t) h 10 t) n in
     let v : c .read-size .result - 0 ≡ length p = omega arith in
     record {
-      kept = ∣ u .0 ∣₁;
+      kept = closed b d (c .pre .kept .0) (c .unlink .kept .bytes) (u .0);
       held = u .1;
       size = ap Some y ∙ sym (ap length-of o);
       buffer = (λ i. x i ++ drop (v i) B) ∙ sym (ap (λ q. written q B) o);

@@ -8,9 +8,6 @@ use Rattle.chain_shelf.proofs.Sounds.{opened}
 use Rattle.chain_shelf.proofs.records.seek.Needs as need
 use Rattle.chain_shelf.proofs.records.seek.Needs.{then-last-eq0·by·then-last-eq0, then-last-eq0·by·else-last-eq0·then-number-at-number}
 
-pub read-last-requires : need.read-last-requires
-read-last-requires c κs = let s = opened (c .args .bytes .now) (c .pre) in let l = s .least in (omega arith, omega arith)
-
 pub number-at-requires : need.number-at-requires
 number-at-requires c κs =
     let b = c .args .bytes .now in

@@ -55,6 +55,6 @@ pub loop-step-holds : need.loop-step-holds
 loop-step-holds c =
     let b = c .args .bytes .now in
     let s = opened b (c .pre) in
-    let l = s .least in
+    let l = c .pre .0 .1 in
     let z : records b - 0 ≡ records b = omega arith in
     (omega arith, subst (λ f. Below (records b) (trail (next (mem b)) f (next (mem b) 0))) (sym z) (heads-below b s), ap (λ f. last 0 (under (mem b) (c .args .number) (trail (next (mem b)) f (next (mem b) 0)))) z)

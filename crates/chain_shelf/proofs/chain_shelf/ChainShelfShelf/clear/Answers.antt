@@ -4,15 +4,9 @@ use denote.Ref.{now}
 use lib.ListN.{length, drop}
 use Rattle.std.proofs.shelf.Lists.{take-at}
 use Rattle.std.specs.Of.Vec.{vec-items}
-use Rattle.chain_shelf.specs.Chain.{Kept, Sound, store, held}
-use Rattle.chain_shelf.proofs.Sounds.{opened}
+use Rattle.chain_shelf.specs.Chain.{Kept, store, held}
 use Rattle.chain_shelf.proofs.Stores.{store-is}
 use Rattle.chain_shelf.proofs.chain_shelf.ChainShelfShelf.clear.Needs as need
-
-pub free-all-requires : need.free-all-requires
-free-all-requires c κs =
-    let s = subst Sound (sym (c .deref-mut .ensures .value)) (opened (vec-items (c .args .self .now .region)) (c .args .self .now .kept)) in
-    record { whole = s .whole; least = s .least; most = s .most }
 
 pub ghost-self : need.ghost-self
 ghost-self c =

@@ -9,15 +9,8 @@ use Rattle.std.specs.Of.Vec.{vec-items}
 use Rattle.chain_shelf.specs.Records.{records, span}
 use Rattle.chain_shelf.specs.Chain.{Kept, store, held, spent}
 use Rattle.shelf.specs.Store.{insert, has}
-use Rattle.chain_shelf.proofs.Sounds.{opened}
 use Rattle.chain_shelf.proofs.Stores.{put-ok, put-done, priced-right}
 use Rattle.chain_shelf.proofs.chain_shelf.ChainShelfShelf.put.Needs as need
-
-pub sub-len : need.sub-len
-sub-len c =
-    let s = opened (vec-items (c .args .self .now .region)) (c .args .self .now .kept) in
-    let l = s .least in
-    omega (arith, c .args .self .now .region .ok, c .len .ensures)
 
 pub ghost-self : need.ghost-self
 ghost-self c =
