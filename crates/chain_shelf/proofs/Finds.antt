@@ -1,6 +1,6 @@
 -- What a search of the chain of packets finds.
 use mathlib.Core.Path.{_≡_, refl, sym, _∙_, ap, subst}
-use mathlib.Core.List.{List, [], _∷_, _++_}
+use mathlib.Core.List.{List, [], _∷_}
 use mathlib.Core.Bool.{true}
 use mathlib.Core.Logic.{_⊎_, inl, inr, ⊎-elim}
 use Prim.Native.Nat.{ℕ, suc, _+_, _-_, _/_, _≤_, _<_}
@@ -10,13 +10,13 @@ use lib.Dec.{eqb}
 use Rattle.std.proofs.shelf.Tests.{eqb-true, both-ways}
 use Rattle.std.proofs.shelf.Ways.{tells}
 use Rattle.std.specs.declared.option.Option.the-variants.{Some}
-use Rattle.chain_shelf.specs.Records.{Mem, mem, records, link, next, number, size, tail, span, walk, cnt, heads, Inside, Below, under, rest, last}
+use Rattle.chain_shelf.specs.Records.{Mem, mem, records, link, next, number, size, tail, span, walk, cnt, heads, Inside, under, last}
 use Rattle.shelf.specs.Store.{Packets, Up, Sized, has, lookup}
 use Rattle.chain_shelf.specs.Chain.{pack, layout, packets, tally, packs, held, Seg, Sound}
 use Rattle.chain_shelf.proofs.Fills.{cnt-first}
 use Rattle.chain_shelf.proofs.Frames.{heads-tally, pack-length}
-use Rattle.chain_shelf.proofs.Segs.{first, seg-from, seg-first, seg-last, below-from, below-last}
-use Rattle.chain_shelf.proofs.Places.{place, at-first, has-place, lookup-place}
+use Rattle.chain_shelf.proofs.Segs.{first, seg-from, seg-first, seg-last, below-from, below-last, Below}
+use Rattle.chain_shelf.proofs.Places.{place, at-first, has-place, lookup-place, rest}
 use Rattle.chain_shelf.proofs.Puts.{halves}
 use Rattle.chain_shelf.proofs.Trails.{under-more}
 

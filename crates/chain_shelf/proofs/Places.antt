@@ -1,17 +1,22 @@
 -- Where a number stands in the chain of packets.
 use mathlib.Core.Path.{_≡_, refl}
 use mathlib.Core.List.{List, [], _∷_, _++_}
-use mathlib.Core.Bool.{Bool, false}
-use Prim.Native.Nat.{ℕ, suc, _+_, _-_, _<_}
+use mathlib.Core.Bool.{Bool, false, cond}
+use Prim.Native.Nat.{ℕ, suc, _+_, _<_}
 use native.Mathlib.Omega.{arith}
-use lib.Dec.{eqb}
+use lib.Dec.{eqb, ltb}
 use Rattle.std.proofs.shelf.Ways.{tells}
 use Rattle.std.specs.declared.option.Option.{Option}
 use Rattle.std.specs.declared.option.Option.the-variants.{Some, None}
-use Rattle.chain_shelf.specs.Records.{Mem, number, under, rest}
+use Rattle.chain_shelf.specs.Records.{Mem, number, under}
 use Rattle.shelf.specs.Store.{insert, remove, has, lookup, above, Up}
 use Rattle.chain_shelf.specs.Chain.{pack, layout, packets}
 use Rattle.shelf.proofs.Kept.{has-first, up-has}
+
+-- the packets that are left of the chain, from the first whose number is not below k
+abbrev pub rest : Mem → ℕ → List ℕ → List ℕ
+rest m k [] = []
+rest m k (h ∷ hs) = cond (ltb (number m h) k) (rest m k hs) (h ∷ hs)
 
 pub place : (m : Mem) (k : ℕ) (hs : List ℕ) → under m k hs ++ rest m k hs ≡ hs
 place m k [] = refl

@@ -2,12 +2,12 @@
 use mathlib.Core.Path.{_≡_, refl, sym, _∙_, ap, subst}
 use mathlib.Core.List.{List, _∷_, _++_}
 use mathlib.Core.Bool.{false}
-use mathlib.Core.Logic.{_⊎_, ⊎-elim}
+use mathlib.Core.Logic.{⊎-elim}
 use Prim.Native.Nat.{ℕ, _^_, zero, suc, _+_, _-_, _/_, _≤_, _<_}
 use native.Mathlib.Omega.{arith}
 use lib.ListN.{length}
 use Rattle.std.proofs.shelf.Tests.{cases-eq}
-use Rattle.chain_shelf.specs.Records.{Mem, mem, records, link, next, number, size, tail, in-use, span, walk, gather, hit, cnt, heads, Apart, Inside, under, rest, last}
+use Rattle.chain_shelf.specs.Records.{Mem, mem, records, link, next, size, tail, span, walk, gather, hit, cnt, heads, Apart, Inside, under, last}
 use Rattle.shelf.specs.Store.{units, Up, Sized, has, insert}
 use Rattle.chain_shelf.specs.Chain.{pack, layout, packets, tally, loose, packs, held, spent, free, Seg, Sound, LaidIn}
 use Rattle.chain_shelf.proofs.Fills.{hit-not, cnt-first}
@@ -15,7 +15,7 @@ use Rattle.chain_shelf.proofs.Counts.{cnt-append, tally-append, layout-append,
 use Rattle.chain_shelf.proofs.Frames.{layout-same, heads-tally}
 use Rattle.chain_shelf.proofs.Segs.{seg-in, seg-from, seg-end, last-append}
 use Rattle.shelf.proofs.Kept.{up-insert, sized-insert, units-insert}
-use Rattle.chain_shelf.proofs.Places.{place, insert-place}
+use Rattle.chain_shelf.proofs.Places.{place, insert-place, rest}
 use Rattle.chain_shelf.proofs.Sounds.{sound-of}
 
 packs-split : (b : List ℕ) (k : ℕ) → packs b ≡ layout (mem b) (under (mem b) k (heads b)) ++ layout (mem b) (rest (mem b) k (heads b))

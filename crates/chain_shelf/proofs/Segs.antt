@@ -1,11 +1,11 @@
 -- The chain of packets.
 use mathlib.Core.Path.{_≡_, refl, sym, _∙_, ap}
 use mathlib.Core.List.{List, [], _∷_, _++_}
-use Prim.Native.Nat.{ℕ, _+_, _-_, _≤_, _<_}
+use Prim.Native.Nat.{ℕ, _-_, _≤_, _<_}
 use native.Mathlib.Omega.{arith}
 use lib.ListN.{length}
 use Rattle.std.proofs.shelf.Tests.{eq-eqb, ne-eqb}
-use Rattle.chain_shelf.specs.Records.{Mem, trail, cnt, Apart, last, Below, span}
+use Rattle.chain_shelf.specs.Records.{Mem, trail, cnt, Apart, last, span}
 use Rattle.shelf.specs.Store.{units}
 use Rattle.chain_shelf.specs.Chain.{layout, packets, Seg, end}
 use Rattle.chain_shelf.proofs.Fills.{cnt-first, apart-first, apart-rest}
@@ -50,6 +50,11 @@ seg-out g k q (a ∷ A) B r s p u h =
 pub heads-units : (m : Mem) (hs : List ℕ) → length hs ≤ units (span 10) (packets (layout m hs))
 heads-units m [] = omega arith
 heads-units m (h ∷ hs) = let e = heads-units m hs in omega arith
+
+-- each is below R
+abbrev pub Below : ℕ → List ℕ → Type 0
+Below R [] = Unit {0}
+Below R (h ∷ hs) = (h < R) × Below R hs
 
 pub below-from : (R : ℕ) (hs : List ℕ) → ((q : ℕ) → 0 < cnt q hs → q < R) → Below R hs
 below-from R [] h = tt

@@ -5,14 +5,14 @@ use mathlib.Core.Logic.{inl}
 use Prim.Native.Nat.{ℕ, _+_, _-_, _/_, _≤_, _<_}
 use native.Mathlib.Omega.{arith}
 use lib.ListN.{length}
-use Rattle.chain_shelf.specs.Records.{Mem, mem, records, link, next, number, size, tail, span, walk, cnt, heads, Apart, under, rest, last}
+use Rattle.chain_shelf.specs.Records.{Mem, mem, records, link, next, number, size, tail, span, walk, cnt, heads, Apart, under, last}
 use Rattle.shelf.specs.Store.{units, Up, Sized, remove}
 use Rattle.chain_shelf.specs.Chain.{pack, layout, packets, tally, loose, packs, held, spent, free, Seg, Sound, TakenOut}
 use Rattle.chain_shelf.proofs.Counts.{cnt-append, tally-append, layout-append, packets-append, ahead-last, walk-split, walk-keep, walk-turn, last-in, last-link, loose-append, loose-keep}
 use Rattle.chain_shelf.proofs.Frames.{layout-same, heads-tally, link-same, pack-length}
 use Rattle.chain_shelf.proofs.Segs.{seg-out, seg-from, seg-end, last-append}
 use Rattle.shelf.proofs.Kept.{up-remove, sized-remove, units-remove}
-use Rattle.chain_shelf.proofs.Places.{place, remove-place, lookup-place}
+use Rattle.chain_shelf.proofs.Places.{place, remove-place, lookup-place, rest}
 use Rattle.chain_shelf.proofs.Puts.{halves, loose-halves, last-of, heads-apart}
 use Rattle.chain_shelf.proofs.Sounds.{sound-of}
 

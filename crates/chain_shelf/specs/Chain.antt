@@ -1,25 +1,28 @@
--- What the bytes of a region hold, and when they are sound.
+-- What the bytes of a region hold, when they are sound, and what a put and a take change.
 use mathlib.Core.Path.{_≡_}
 use mathlib.Core.Logic.{_⊎_}
 use mathlib.Core.List.{List, [], _∷_}
-use Prim.Native.Nat.{ℕ, _+_, _-_, _*_, _/_, _≤_, _<_}
 use mathlib.Core.Bool.{cond}
+use Prim.Native.Nat.{ℕ, _+_, _-_, _*_, _/_, _≤_, _<_}
 use lib.Dec.{eqb}
 use lib.ListN.{length}
 use Rattle.chain_shelf.specs.Records.{Mem, mem, records, link, next, number, size, tail, in-use, span, walk, gather, cnt, heads, under, last}
 use Rattle.shelf.specs.Store.{Packets, Store, units, Up, Sized}
 
--- a packet: number, bytes, records
+-- a packet: its number, its bytes and its records
 abbrev pub Pack : Type 0
 Pack = ℕ × List ℕ × List ℕ
 
+-- the packet whose first record is h
 abbrev pub pack : Mem → ℕ → Pack
 pack m h = (number m h, gather m (span 10 (size m h)) h 10 (size m h), walk (link m) (span 10 (size m h)) h)
 
+-- the packets that have these first records
 abbrev pub layout : Mem → List ℕ → List Pack
 layout m [] = []
 layout m (h ∷ hs) = pack m h ∷ layout m hs
 
+-- packets as a store has them, without their records
 abbrev pub packets : List Pack → Packets
 packets [] = []
 packets (x ∷ l) = (x .0, x .1) ∷ packets l
@@ -34,23 +37,30 @@ abbrev pub loose : Mem → List Pack → ℕ
 loose m [] = 0
 loose m (x ∷ l) = link m (last 0 (x .2)) + loose m l
 
+-- the packets of a region
 abbrev pub packs : List ℕ → List Pack
 packs b = layout (mem b) (heads b)
 
+-- the same, as a store has them
 abbrev pub held : List ℕ → Packets
 held b = packets (packs b)
 
+-- how many records the packets take
 abbrev pub spent : List ℕ → ℕ
 spent b = units (span 10) (held b)
 
+-- the free records: as many as the packets leave, record 0 not counted
 abbrev pub free : List ℕ → List ℕ
 free b = walk (link (mem b)) (records b - 1 - spent b) (link (mem b) 0)
 
--- from q, through hs, to 0
+-- a chain from q, through hs, to 0
 abbrev pub Seg : (ℕ → ℕ) → ℕ → List ℕ → Type 0
 Seg g q [] = g q ≡ 0
 Seg g q (h ∷ hs) = (g q ≡ h) × (h ≡ 0 → ⊥) × Seg g h hs
 
+-- A region is sound: the chain of packets ends in 0; no record is twice in the packets and the free records; each of those is one of the records
+-- above 0 (and by their number they are all of them); every chain of records ends in link 0; record 0 leads to the last packet and counts the
+-- records that are in use; numbers rise from packet to packet; and each length is one that a packet may have.
 pub record Sound (b : List ℕ) : Type 0 where
   pub chain : Seg (next (mem b)) 0 (heads b)
   pub once : (q : ℕ) → tally q (packs b) + cnt q (free b) ≤ 1
@@ -62,9 +72,6 @@ pub record Sound (b : List ℕ) : Type 0 where
   pub rising : Up 0 (held b)
   pub sized : Sized (held b)
 
-abbrev pub store : List ℕ → Store
-store b = record { held = held b; total = records b - 1; price = span 10 }
-
 -- 26 to 65,535 whole records
 abbrev pub Whole : List ℕ → Type 0
 Whole b = (length b ≡ 64 * records b) × (26 ≤ records b) × (records b ≤ 65535)
@@ -73,11 +80,28 @@ Whole b = (length b ≡ 64 * records b) × (26 ≤ records b) × (records b ≤ 
 abbrev pub Kept : List ℕ → Type 0
 Kept b = Whole b × ∥ Sound b ∥₁
 
+-- what a region means as a shelf
+abbrev pub store : List ℕ → Store
+store b = record { held = held b; total = records b - 1; price = span 10 }
+
+-- what an empty shelf means in a region of n bytes
+abbrev pub fresh : ℕ → Store
+fresh n = record { held = []; total = n / 64 - 1; price = span 10 }
+
+-- the prices of some lengths
+abbrev pub Prices-worked : Type 0
+Prices-worked = (span 10 54 ≡ 1) × (span 10 55 ≡ 2) × (span 10 116 ≡ 2) × (span 10 117 ≡ 3) × (span 10 1500 ≡ 25)
+
+-- p is the first record of the last packet whose number is below k, or 0
+pub record Before (b : List ℕ) (k p : ℕ) : Type 0 where
+  pub is : p ≡ last 0 (under (mem b) k (heads b))
+  pub within : p < records b
+
 -- the last packet's first record: x where no packet comes after it, else as it was
 abbrev pub end : ℕ → ℕ → ℕ → ℕ
 end after x old = cond (eqb after 0) x old
 
--- what laying a packet in changes: its records are the first free ones, and it stands behind the packet at p
+-- What laying the packet xs in under the number k changes, from m to w: it takes the first free records and stands behind the packet at p.
 pub record LaidIn (m w : Mem) (p k : ℕ) (xs : List ℕ) : Type 0 where
   pub ends : tail w ≡ end (next m p) (link m 0) (tail m)
   pub counted : in-use w ≡ in-use m + span 10 (length xs)
@@ -91,7 +115,7 @@ pub record LaidIn (m w : Mem) (p k : ℕ) (xs : List ℕ) : Type 0 where
   pub links : (s : ℕ) → (s ≡ 0 → ⊥) → (s ≡ last 0 (walk (link m) (span 10 (length xs)) (link m 0)) → ⊥) → link w s ≡ link m s
   pub others : (s q : ℕ) → q < 64 → cnt s (walk (link m) (span 10 (length xs)) (link m 0)) ≡ 0 → (s ≡ 0 → (2 ≤ q) × (q < 4)) → (s ≡ p → (q < 2) ⊎ (4 ≤ q)) → w s q ≡ m s q
 
--- what taking the packet behind the one at p out changes: its first record is h, its last one l
+-- What taking out the packet with first record h and last record l, behind the one at p, changes, from m to w: its records are the first free ones.
 pub record TakenOut (m w : Mem) (p h l : ℕ) : Type 0 where
   pub prev : next w p ≡ next m h
   pub free : link w 0 ≡ h
@@ -99,16 +123,3 @@ pub record TakenOut (m w : Mem) (p h l : ℕ) : Type 0 where
   pub ends : tail w ≡ end (next m h) p (tail m)
   pub counted : in-use w ≡ in-use m - span 10 (size m h)
   pub others : (s q : ℕ) → q < 64 → (s ≡ 0 → (2 ≤ q) × (q < 4)) → (s ≡ l → 2 ≤ q) → (s ≡ p → (q < 2) ⊎ (4 ≤ q)) → w s q ≡ m s q
-
--- prices of some lengths
-abbrev pub Prices-worked : Type 0
-Prices-worked = (span 10 54 ≡ 1) × (span 10 55 ≡ 2) × (span 10 116 ≡ 2) × (span 10 117 ≡ 3) × (span 10 1500 ≡ 25)
-
--- what an empty shelf means in a region of n bytes
-abbrev pub fresh : ℕ → Store
-fresh n = record { held = []; total = n / 64 - 1; price = span 10 }
-
--- p is the first record of the last packet whose number is below k, or 0
-pub record Before (b : List ℕ) (k p : ℕ) : Type 0 where
-  pub is : p ≡ last 0 (under (mem b) k (heads b))
-  pub within : p < records b

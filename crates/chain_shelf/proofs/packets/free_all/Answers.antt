@@ -1,10 +1,10 @@
-use mathlib.Core.Path.{_≡_, sym, _∙_, ap}
+use mathlib.Core.Path.{_≡_, _∙_, ap}
 use mathlib.Core.Logic.{⊎-elim}
 use Prim.Native.Nat.{ℕ, _+_, _-_, _/_}
 use native.Mathlib.Omega.{arith}
 use lib.ListN.{length}
 use Rattle.std.proofs.shelf.Tests.{cases-eq}
-use Rattle.chain_shelf.specs.Records.{mem, records, link, next}
+use Rattle.chain_shelf.specs.Records.{mem, records, link}
 use Rattle.chain_shelf.proofs.Frames.{link-same}
 use Rattle.chain_shelf.proofs.Sounds.{closed}
 use Rattle.chain_shelf.proofs.Fresh.{fresh-sound}

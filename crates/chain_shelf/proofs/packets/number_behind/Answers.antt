@@ -1,5 +1,5 @@
 use mathlib.Core.Path.{sym, _∙_, ap}
-use Prim.Native.Nat.{_-_, _+_}
+use Prim.Native.Nat.{_+_}
 use Rattle.std.specs.declared.option.Option.the-variants.{Some}
 use Rattle.chain_shelf.specs.Records.{mem, next, number, heads}
 use Rattle.chain_shelf.proofs.Finds.{none-left, some-left, at-inside}

@@ -1,5 +1,4 @@
 use mathlib.Core.Path.{subst}
-use Prim.Native.Nat.{_-_}
 use lib.ListN.{length}
 use Rattle.chain_shelf.specs.Records.{mem, span, last}
 use Rattle.chain_shelf.specs.Chain.{LaidIn}

@@ -1,8 +1,7 @@
-use mathlib.Core.Path.{_≡_, _∙_, ap, subst, sym}
+use mathlib.Core.Path.{_≡_, _∙_, ap, sym}
 use mathlib.Core.Logic.{inl, inr}
-use Prim.Native.Nat.{_-_, _<_}
 use native.Mathlib.Omega.{arith}
-use Rattle.chain_shelf.specs.Records.{mem, records, number, tail}
+use Rattle.chain_shelf.specs.Records.{mem, number, tail}
 use Rattle.chain_shelf.proofs.Finds.{tail-below, all-under}
 use Rattle.chain_shelf.proofs.Sounds.{opened}
 use Rattle.chain_shelf.proofs.records.seek.Needs as need

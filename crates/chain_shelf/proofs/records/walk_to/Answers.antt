@@ -2,7 +2,8 @@ use mathlib.Core.Path.{_≡_, sym, _∙_, ap, subst}
 use mathlib.Core.List.{[], _∷_}
 use Prim.Native.Nat.{_-_, _+_}
 use native.Mathlib.Omega.{arith}
-use Rattle.chain_shelf.specs.Records.{mem, records, next, number, trail, Below, under, last}
+use Rattle.chain_shelf.specs.Records.{mem, records, next, number, trail, under, last}
+use Rattle.chain_shelf.proofs.Segs.{Below}
 use Rattle.chain_shelf.proofs.Finds.{heads-below}
 use Rattle.chain_shelf.proofs.Sounds.{opened}
 use Rattle.chain_shelf.proofs.Trails.{trail-more, trail-none, under-more, under-none}

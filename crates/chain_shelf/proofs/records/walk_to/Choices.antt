@@ -1,6 +1,7 @@
 use Prim.Native.Nat.{_<_, _-_}
 use mathlib.Core.Path.{_≡_}
-use Rattle.chain_shelf.specs.Records.{mem, records, next, trail, heads, Below, under, last}
+use Rattle.chain_shelf.specs.Records.{mem, records, next, trail, heads, under, last}
+use Rattle.chain_shelf.proofs.Segs.{Below}
 use Rattle.chain_shelf.proofs.records.walk_to.Given as given
 
 abbrev pub Inv-loop-step : given.InvT-loop-step
