@@ -3,9 +3,7 @@ use mathlib.Core.Path.{_≡_, refl, _∙_, ap}
 use mathlib.Core.List.{List, [], _∷_, _++_}
 use Prim.Native.Nat.{ℕ, zero, suc, _+_, _-_, _/_, _<_}
 use native.Mathlib.Omega.{arith}
-use lib.ListN.{length}
 use Rattle.chain_shelf.specs.Records.{Mem, link, size, walk, cnt, Apart, last}
-use Rattle.shelf.specs.Store.{Packets, units}
 use Rattle.chain_shelf.specs.Chain.{Pack, layout, packets, tally, loose}
 use Rattle.chain_shelf.proofs.Fills.{cnt-first, apart-first, apart-rest}
 
@@ -24,10 +22,6 @@ layout-append m (h ∷ a) b = let e = layout-append m a b in cc
 pub packets-append : (a b : List Pack) → packets (a ++ b) ≡ packets a ++ packets b
 packets-append [] b = refl
 packets-append (x ∷ a) b = let e = packets-append a b in cc
-
-pub length-walk : (g : ℕ → ℕ) (n r : ℕ) → length (walk g n r) ≡ n
-length-walk g zero r = refl
-length-walk g (suc n) r = ap suc (length-walk g n (g r))
 
 -- the record n steps behind s
 abbrev pub ahead : (ℕ → ℕ) → ℕ → ℕ → ℕ
@@ -75,7 +69,3 @@ loose-keep m w (x ∷ hs) h =
     let e = h (last x T) (let l = last-in x T in omega arith) in
     let i = loose-keep m w hs (λ t l. h t (omega arith)) in
     omega arith
-
-pub units-append : (f : ℕ → ℕ) (a b : Packets) → units f (a ++ b) ≡ units f a + units f b
-units-append f [] b = omega arith
-units-append f (x ∷ a) b = let e = units-append f a b in omega arith

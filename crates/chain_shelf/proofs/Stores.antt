@@ -3,12 +3,11 @@ use mathlib.Core.Path.{_≡_, _∙_, ap}
 use mathlib.Core.List.{List}
 use mathlib.Core.Bool.{true, false, cond}
 use Prim.Native.Nat.{ℕ, _+_, _-_, _/_, _≤_}
-use lib.Dec.{leb}
 use lib.ListN.{length}
 use mathlib.Core.Logic.{⊎-elim}
 use native.Mathlib.Omega.{arith}
 use Rattle.std.proofs.shelf.Ways.{tells}
-use Rattle.std.proofs.shelf.Tests.{le-leb, and-from, cond-true, cond-false, cases-bool}
+use Rattle.std.proofs.shelf.Tests.{le-leb, cond-true, cond-false, cases-bool}
 use Rattle.std.specs.declared.option.Option.{Option}
 use Rattle.std.specs.declared.result.Result.the-variants.{Ok}
 use Rattle.chain_shelf.specs.Records.{records, span}
@@ -17,9 +16,6 @@ use Rattle.chain_shelf.specs.Chain.{held, spent, store}
 
 pub store-is : (b d : List ℕ) (h : Packets) → held d ≡ h → length d ≡ length b → store d ≡ with-held (store b) h
 store-is b d h e l = λ i. record { held = e i; total = l i / 64 - 1; price = span 10 }
-
-pub right-is : (n : ℕ) → 16 ≤ n → n ≤ 1500 → right n ≡ true
-right-is n a b = and-from (leb 16 n) (leb n 1500) (le-leb 16 n a) (le-leb n 1500 b)
 
 pub right-least : (n : ℕ) → right n ≡ true → 16 ≤ n
 right-least n r = grind (arith, tells)
