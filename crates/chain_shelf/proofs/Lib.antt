@@ -12,3 +12,4 @@ mod Finds
 mod Lays
 mod Fresh
 mod Stores
+mod Walks

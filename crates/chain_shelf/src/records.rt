@@ -112,14 +112,11 @@ fn walk_to(bytes: &[u8], number: u64) -> usize
     requires { ⌜ Kept (now bytes) ⌝ }
     ensures { λ v. ⌜ Before (now (bytes .entry)) number v ⌝ }
 {
-    let count = bytes.len() / RECORD;
     let mut prev = 0;
-    for step in 0..count {
-        let at = read(bytes, prev, NEXT);
-        if at == 0 || number_at(bytes, at) >= number {
-            return prev;
-        }
+    let mut at = read(bytes, 0, NEXT);
+    while at != 0 && number_at(bytes, at) < number {
         prev = at;
+        at = read(bytes, at, NEXT);
     }
     prev
 }
