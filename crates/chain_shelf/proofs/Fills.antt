@@ -1,3 +1,4 @@
+-- Bytes that are written or read through a chain of records.
 use mathlib.Core.Path.{_≡_, refl, sym, _∙_, ap, subst, fun-ext}
 use mathlib.Core.List.{List, _∷_, _++_, append-nil}
 use mathlib.Core.Logic.{_⊎_, inl, ⊎-elim}

@@ -17,6 +17,7 @@ use crate::records::NEXT;
 use crate::records::NUMBER;
 use crate::records::SIZE;
 use crate::records::USED;
+use crate::records::WORD;
 use crate::records::copy;
 use crate::records::fill;
 use crate::records::number_at;
@@ -26,25 +27,26 @@ use crate::region::RECORD;
 use shelf::LONGEST;
 use shelf::SHORTEST;
 
-/// The bytes of a packet in its first record, and in each later one.
+/// The bytes of a packet in its first record.
 const FIRST_ROOM: usize = RECORD - BODY;
 
+/// The bytes of a packet in each later record.
 const ROOM: usize = RECORD - MORE;
 
 /// Writes what a packet's first record has before its bytes, but for the link.
-fn head(bytes: &mut [u8], r: usize, after: usize, number: u32, size: usize)
-    requires at { ⌜ r < records (now bytes) ⌝ }
+fn head(bytes: &mut [u8], index: usize, after: usize, number: u32, size: usize)
+    requires at { ⌜ index < records (now bytes) ⌝ }
     requires after { ⌜ after < 65536 ⌝ }
     requires size { ⌜ size < 65536 ⌝ }
-    ensures after { λ _. ⌜ next (mem (now (bytes .exit))) r ≡ after ⌝ }
-    ensures number { λ _. ⌜ number-of (mem (now (bytes .exit))) r ≡ number ⌝ }
-    ensures size { λ _. ⌜ size-of (mem (now (bytes .exit))) r ≡ size ⌝ }
-    ensures others { λ _. ⌜ ((s q : ℕ) → q < 64 → (s ≡ r → (q < 2) ⊎ (10 ≤ q)) → mem (now (bytes .exit)) s q ≡ mem (now (bytes .entry)) s q) ⌝ }
+    ensures after { λ _. ⌜ next (mem (now (bytes .exit))) index ≡ after ⌝ }
+    ensures number { λ _. ⌜ number-of (mem (now (bytes .exit))) index ≡ number ⌝ }
+    ensures size { λ _. ⌜ size-of (mem (now (bytes .exit))) index ≡ size ⌝ }
+    ensures others { λ _. ⌜ ((s q : ℕ) → q < 64 → (s ≡ index → (q < 2) ⊎ (10 ≤ q)) → mem (now (bytes .exit)) s q ≡ mem (now (bytes .entry)) s q) ⌝ }
 {
-    write(bytes, r, NEXT, after);
-    write(bytes, r, NUMBER, (number % 65536) as usize);
-    write(bytes, r, NUMBER + 2, (number / 65536) as usize);
-    write(bytes, r, SIZE, size);
+    write(bytes, index, NEXT, after);
+    write(bytes, index, NUMBER, (number % WORD) as usize);
+    write(bytes, index, NUMBER + 2, (number / WORD) as usize);
+    write(bytes, index, SIZE, size);
 }
 
 /// Writes what record 0 has, but for the link to the first packet.
@@ -63,7 +65,7 @@ fn lead(bytes: &mut [u8], free: usize, last: usize, used: usize)
     write(bytes, 0, USED, used);
 }
 
-/// The last packet's first record, now that the packet at `first` is followed by the one at `after`.
+/// The last packet's first record, now that `after` follows `first`: that is `first` where `after` is 0.
 fn end_of(bytes: &[u8], after: usize, first: usize) -> usize
     requires some { ⌜ 0 < records (now bytes) ⌝ }
     requires first { ⌜ first < 65536 ⌝ }
@@ -119,7 +121,7 @@ fn unlink(bytes: &mut [u8], prev: usize, first: usize, stop: usize)
 }
 
 /// Whether the packet behind the one at `prev` has the number.
-pub fn stands_behind(bytes: &[u8], prev: usize, number: u32) -> bool
+pub(crate) fn stands_behind(bytes: &[u8], prev: usize, number: u32) -> bool
     requires kept { ⌜ Kept (now bytes) ⌝ }
     requires prev { ⌜ Before (now bytes) number prev ⌝ }
     ensures { λ r. ⌜ r ≡ has (held (now (bytes .entry))) number ⌝ }
@@ -129,7 +131,7 @@ pub fn stands_behind(bytes: &[u8], prev: usize, number: u32) -> bool
 }
 
 /// The number of the packet behind the one at `prev`: the least above the given number.
-pub fn number_behind(bytes: &[u8], prev: usize, number: u32) -> Option<u32>
+pub(crate) fn number_behind(bytes: &[u8], prev: usize, number: u32) -> Option<u32>
     requires kept { ⌜ Kept (now bytes) ⌝ }
     requires prev { ⌜ Before (now bytes) (number + 1) prev ⌝ }
     ensures { λ r. ⌜ r ≡ above (held (now (bytes .entry))) number ⌝ }
@@ -142,7 +144,7 @@ pub fn number_behind(bytes: &[u8], prev: usize, number: u32) -> Option<u32>
 }
 
 /// Keeps a packet behind the one at `prev`.
-pub fn put_behind(bytes: &mut [u8], prev: usize, number: u32, packet: &[u8])
+pub(crate) fn put_behind(bytes: &mut [u8], prev: usize, number: u32, packet: &[u8])
     requires kept { ⌜ Kept (now bytes) ⌝ }
     requires prev { ⌜ Before (now bytes) number prev ⌝ }
     requires proper { ⌜ right (length (now packet)) ≡ true ⌝ }
@@ -155,7 +157,7 @@ pub fn put_behind(bytes: &mut [u8], prev: usize, number: u32, packet: &[u8])
 }
 
 /// Moves the packet behind the one at `prev` to the front of the buffer, and answers its length.
-pub fn take_behind(bytes: &mut [u8], prev: usize, number: u32, buffer: &mut [u8]) -> usize
+pub(crate) fn take_behind(bytes: &mut [u8], prev: usize, number: u32, buffer: &mut [u8]) -> usize
     requires kept { ⌜ Kept (now bytes) ⌝ }
     requires prev { ⌜ Before (now bytes) number prev ⌝ }
     requires long { ⌜ 1500 ≤ length (now buffer) ⌝ }
@@ -195,7 +197,7 @@ pub fn price_of(length: usize) -> u32
 }
 
 /// The records that are in use.
-pub fn used_in(bytes: &[u8]) -> u32
+pub(crate) fn used_in(bytes: &[u8]) -> u32
     requires { ⌜ Kept (now bytes) ⌝ }
     ensures { λ r. ⌜ r ≡ spent (now (bytes .entry)) ⌝ }
 {
@@ -203,7 +205,7 @@ pub fn used_in(bytes: &[u8]) -> u32
 }
 
 /// Frees every record, in order.
-pub fn free_all(bytes: &mut [u8])
+pub(crate) fn free_all(bytes: &mut [u8])
     requires { ⌜ Whole (now bytes) ⌝ }
     ensures kept { λ _. ⌜ Kept (now (bytes .exit)) ⌝ }
     ensures held { λ _. ⌜ held (now (bytes .exit)) ≡ [] ⌝ }

@@ -7,11 +7,12 @@ ghost use Rattle.chain_shelf.specs.Regions.{fit};
 ghost use Rattle.chain_shelf.specs.Faults.{region-fault-number};
 
 /// The bytes of a record.
-pub const RECORD: usize = 64;
+pub(crate) const RECORD: usize = 64;
 
-/// The fewest and the most records of a region.
+/// The fewest records of a region: those of the longest packet, and record 0.
 const FEWEST: usize = 26;
 
+/// The most records of a region.
 const MOST: usize = 65535;
 
 /// Why memory was not taken as a region; it is given back.

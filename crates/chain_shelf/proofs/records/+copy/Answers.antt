@@ -19,8 +19,8 @@ pub returns-then-buffer-room : need.returns-then-buffer-room
 returns-then-buffer-room t c =
     let b = c .args .bytes .now in
     let n = length (c .args .buffer .now) in
-    let o = c .args .o in
-    let r = c .args .r in
+    let o = c .args .offset in
+    let r = c .args .index in
     let k : (64 * r + o + n) - (64 * r + o) ≡ n = omega arith in
     record {
       laid = drawn b (c .copy-from-slice .last .self) r o n ((64 * r + o + n) - (64 * r + o)) k (omega arith) (omega arith) (c .copy-from-slice .ensures .after) ∙ sym (gather-one (mem b) r o n (omega arith));
@@ -41,8 +41,8 @@ pub copy-requires : need.copy-requires
 copy-requires t c κs =
     let b = c .args .bytes .now in
     let B = c .args .buffer .now in
-    let o = c .args .o in
-    let r = c .args .r in
+    let o = c .args .offset in
+    let r = c .args .index in
     let a = c .read-after .result in
     let X = c .copy-from-slice-2 .last .self in
     let Y = X ++ postOf 0 ((64 - o) - 0) B in
@@ -58,8 +58,8 @@ pub returns : need.returns
 returns t c =
     let b = c .args .bytes .now in
     let B = c .args .buffer .now in
-    let o = c .args .o in
-    let r = c .args .r in
+    let o = c .args .offset in
+    let r = c .args .index in
     let a = c .read-after .result in
     let X = c .copy-from-slice-2 .last .self in
     let Y = X ++ postOf 0 ((64 - o) - 0) B in

@@ -11,8 +11,8 @@ use Rattle.chain_shelf.proofs.records.+fill.Needs as need
 pub fill-requires : need.fill-requires
 fill-requires t c κs =
     let p = c .args .part .now in
-    let o = c .args .o in
-    let r = c .args .r in
+    let o = c .args .offset in
+    let r = c .args .index in
     let a = c .read-after .result in
     let P = take (length p - (64 - o)) (drop (64 - o) p) in
     let n : length P ≡ length p - (64 - o) = ap length (take-rest p (64 - o)) ∙ length-drop (64 - o) p in
@@ -28,8 +28,8 @@ fill-requires t c κs =
 pub returns : need.returns
 returns t c =
     let p = c .args .part .now in
-    let o = c .args .o in
-    let r = c .args .r in
+    let o = c .args .offset in
+    let r = c .args .index in
     let a = c .read-after .result in
     let P = take (length p - (64 - o)) (drop (64 - o) p) in
     let n : length P ≡ length p - (64 - o) = ap length (take-rest p (64 - o)) ∙ length-drop (64 - o) p in

@@ -8,6 +8,6 @@ pub returns : need.returns
 returns c =
     let e = c .copy-from-slice .ensures .after in
     record {
-      there = cut-from (mem _) (c .args .r) (c .args .o) (c .args .part .now) (λ k l. grind (arith, places));
+      there = cut-from (mem _) (c .args .index) (c .args .offset) (c .args .part .now) (λ k l. grind (arith, places));
       others = λ s q l h. grind (arith, places);
     }

@@ -10,10 +10,11 @@ use Rattle.chain_shelf.proofs.records.walk_to.Needs as need
 pub loop-at-holds : need.loop-at-holds
 loop-at-holds c =
     let b = c .args .bytes .now in
-    let e : c .read-at .result ≡ next (mem b) 0 = c .read-at .ensures .is in
-    ( omega arith
-    , subst (Left (mem b) (records b) 0) (sym e) (left-all b (opened b (c .pre)))
-    , ap (λ t. last 0 (under (mem b) (c .args .number) (trail (next (mem b)) (records b) t))) e)
+    let e : c .read-at .result ≡ next (mem b) 0 = c .read-at .ensures .is in (
+      omega arith,
+      subst (Left (mem b) (records b) 0) (sym e) (left-all b (opened b (c .pre))),
+      ap (λ t. last 0 (under (mem b) (c .args .number) (trail (next (mem b)) (records b) t))) e,
+    )
 
 pub number-at-requires : need.number-at-requires
 number-at-requires c κs =
@@ -41,12 +42,13 @@ loop-at-again c =
     let T = trail (next (mem b)) (records b) in
     let s = left-step (mem b) (records b) p a (c .loop-at-test .taken) (c .loop-at .inv .1) in
     let e : c .read-at-in-loop-at .result ≡ next (mem b) a = c .read-at-in-loop-at .ensures .is in
-    let n = c .number-at .ensures .is in
-    ( s .0
-    , subst (Left (mem b) (records b) a) (sym e) (s .1)
-    , ap (λ t. last a (under (mem b) k (T t))) e
-      ∙ sym (ap (λ hs. last p (under (mem b) k hs)) (s .2) ∙ ap (last p) (under-more (mem b) k a (T (next (mem b) a)) (omega arith)))
-      ∙ c .loop-at .inv .2)
+    let n = c .number-at .ensures .is in (
+      s .0,
+      subst (Left (mem b) (records b) a) (sym e) (s .1),
+      ap (λ t. last a (under (mem b) k (T t))) e
+          ∙ sym (ap (λ hs. last p (under (mem b) k hs)) (s .2) ∙ ap (last p) (under-more (mem b) k a (T (next (mem b) a)) (omega arith)))
+          ∙ c .loop-at .inv .2,
+    )
 
 pub returns-else-number-at-number : need.returns-else-number-at-number
 returns-else-number-at-number c =
