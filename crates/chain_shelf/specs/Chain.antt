@@ -88,6 +88,10 @@ store b = record { held = held b; total = records b - 1; price = span 10 }
 abbrev pub fresh : ℕ → Store
 fresh n = record { held = []; total = n / 64 - 1; price = span 10 }
 
+-- r records have room for n bytes, 54 in the first and 62 in each other one, just where r is at least the price of n
+abbrev pub Price-law : Type 0
+Price-law = (n r : ℕ) → 1 ≤ r → (n ≤ 54 + 62 * (r - 1) → span 10 n ≤ r) × (span 10 n ≤ r → n ≤ 54 + 62 * (r - 1))
+
 -- the prices of some lengths
 abbrev pub Prices-worked : Type 0
 Prices-worked = (span 10 54 ≡ 1) × (span 10 55 ≡ 2) × (span 10 116 ≡ 2) × (span 10 117 ≡ 3) × (span 10 1500 ≡ 25)

@@ -8,7 +8,7 @@ ghost use lib.ListN.{length};
 ghost use Rattle.std.specs.declared.option.Option.the-variants.{Some};
 ghost use Rattle.chain_shelf.specs.Records.{mem, records, link, next, number as number-of, size as size-of, tail, in-use, span, walk, cnt, Apart, Inside};
 ghost use Rattle.shelf.specs.Store.{has, insert, remove, lookup, above, length-of, written, right};
-ghost use Rattle.chain_shelf.specs.Chain.{held, spent, end, Prices-worked, Whole, Kept, Before, LaidIn, TakenOut};
+ghost use Rattle.chain_shelf.specs.Chain.{held, spent, end, Price-law, Prices-worked, Whole, Kept, Before, LaidIn, TakenOut};
 use crate::records::BODY;
 use crate::records::LAST;
 use crate::records::LINK;
@@ -188,6 +188,7 @@ fn span_of(length: usize) -> usize
 /// The price of a length: the records that such a packet takes, or 0 where there is no such packet.
 pub fn price_of(length: usize) -> u32
     ensures is { λ r. ⌜ r ≡ cond (right length) (span 10 length) 0 ⌝ }
+    ensures least { λ _. ⌜ Price-law ⌝ }
     ensures worked { λ _. ⌜ Prices-worked ⌝ }
 {
     if length < SHORTEST || length > LONGEST {
