@@ -1,0 +1,15 @@
+mod Cuts
+mod Fills
+mod Trails
+mod Counts
+mod Frames
+mod Segs
+mod Places
+mod Sounds
+mod Puts
+mod Takes
+mod Finds
+mod Lays
+mod Fresh
+mod Stores
+mod Walks

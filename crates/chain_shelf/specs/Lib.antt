@@ -1,0 +1,4 @@
+pub mod Records
+pub mod Chain
+pub mod Regions
+pub mod Faults
