@@ -3,12 +3,10 @@ ghost use mathlib.Core.Path.{_≡_};
 ghost use Rattle.std.specs.Vec.{made};
 ghost use Rattle.std.specs.shelf.Text.{sameBytes};
 ghost use Rattle.console.specs.Commands.{told-command, command-in, comment, verb-of, read-in};
-
-use std::alloc::AllocError;
-use std::alloc::Global;
-
 use crate::hex::decode_hex;
 use crate::words::next_word;
+use std::alloc::AllocError;
+use std::alloc::Global;
 
 /// What a line asks.
 #[derive(Drop)]
@@ -37,7 +35,11 @@ fn is_word(word: &[u8], name: &[u8]) -> bool
 fn read_verb(word: &[u8]) -> Verb
     ensures { λ r. ⌜ r ≡ verb-of (now (word .entry)) ⌝ }
 {
-    if is_word(word, b"read") { Verb::Read } else { Verb::Unknown }
+    if is_word(word, b"read") {
+        Verb::Read
+    } else {
+        Verb::Unknown
+    }
 }
 
 fn is_comment(line: &[u8]) -> bool

@@ -5,7 +5,6 @@ ghost use Rattle.std.specs.Of.Vec.{vec-items};
 ghost use Rattle.std.specs.Options.{mapped, Cases};
 ghost use Rattle.std.specs.Vec.{made};
 ghost use Rattle.console.specs.Hex.{nibble, hex-bytes};
-
 use std::alloc::AllocError;
 use std::alloc::Global;
 
@@ -35,5 +34,9 @@ pub fn decode_hex(heap: Global, text: &[u8]) -> Result<Option<Vec<u8>>, AllocErr
         bytes.push(high * 16 + low)?;
         rest = more;
     }
-    if rest.is_empty() { Ok(Some(bytes)) } else { Ok(None) }
+    if rest.is_empty() {
+        Ok(Some(bytes))
+    } else {
+        Ok(None)
+    }
 }
