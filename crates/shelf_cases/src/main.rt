@@ -1,6 +1,4 @@
 //! The proved shelves beside a plain map: the same random calls, every answer compared.
-ghost use Prim.Native.Nat.{_≤_};
-
 mod model;
 
 use chain_shelf::ChainShelf;
@@ -8,6 +6,7 @@ use chain_shelf::ChainShelfShelf;
 use chain_shelf::Region;
 use model::Model;
 use model::Prices;
+use random::Random;
 use shelf::Quota;
 use shelf::QuotaShelf;
 use shelf::Shelf;
@@ -20,53 +19,20 @@ const CALLS: u32 = 20_000;
 
 const LENGTHS: [usize; 13] = [15, 16, 53, 54, 55, 56, 115, 116, 117, 118, 1499, 1500, 1501];
 
-// Random choices from a fixed seed; packets get so many different numbers.
-#[derive(Clone, Copy)]
-struct Random {
-    state: u64,
-    numbers: u16,
-}
-
-impl Random {
-    fn next(&mut self) -> u64 {
-        let mut x = self.state;
-        x ^= x << 13;
-        x ^= x >> 7;
-        x ^= x << 17;
-        self.state = x;
-        x
-    }
-
-    fn below(&mut self, n: usize) -> usize
-        ensures { λ r. ⌜ r ≤ n ⌝ }
-    {
-        match usize::try_from(self.next()) {
-            Ok(x) if n > 0 => x % n,
-            _ => 0,
-        }
-    }
-
-    fn number(&mut self) -> u32 {
-        self.below(usize::from(self.numbers)) as u32
-    }
-
-    fn byte(&mut self) -> u8 {
-        (self.next() >> 24 & 0xff) as u8
-    }
-
-    fn length(&mut self) -> usize {
-        let i = self.below(26);
-        if i < LENGTHS.len() {
-            LENGTHS[i]
-        } else {
-            16 + self.below(200)
-        }
+// One of the lengths that matter, or a short one.
+fn any_length(random: &mut Random) -> usize {
+    let i = random.below(26) as usize;
+    if i < LENGTHS.len() {
+        LENGTHS[i]
+    } else {
+        16 + random.below(200) as usize
     }
 }
 
-// What the calls so far have met.
+// The course of one run: how many numbers its packets have, and what its calls have met.
 #[derive(Clone, Copy)]
-struct Seen {
+struct Course {
+    numbers: u32,
     short: bool,
     length: bool,
     held: bool,
@@ -88,10 +54,10 @@ fn put<S: Shelf>(
     shelf: &mut S,
     model: &mut Model,
     random: &mut Random,
-    seen: &mut Seen,
+    course: &mut Course,
 ) -> Result<(), AnyError> {
-    let number = random.number();
-    let mut packet = vec![in heap; 0u8; random.length()]?;
+    let number = random.below(course.numbers);
+    let mut packet = vec![in heap; 0u8; any_length(random)]?;
     for byte in packet.iter_mut() {
         *byte = random.byte();
     }
@@ -101,9 +67,9 @@ fn put<S: Shelf>(
         Err(fault) => fault.number(),
     };
     match told {
-        2 => seen.length = true,
-        11 => seen.held = true,
-        13 => seen.full = true,
+        2 => course.length = true,
+        11 => course.held = true,
+        13 => course.full = true,
         _ => {}
     }
     agree(told == owed, "put")
@@ -114,10 +80,10 @@ fn take<S: Shelf>(
     shelf: &mut S,
     model: &mut Model,
     random: &mut Random,
-    seen: &mut Seen,
+    course: &mut Course,
 ) -> Result<(), AnyError> {
-    let number = random.number();
-    let room = 1499 + random.below(8) / 2;
+    let number = random.below(course.numbers);
+    let room = 1499 + random.below(8) as usize / 2;
     let mut buffer = vec![in heap; 0u8; room]?;
     for byte in buffer.iter_mut() {
         *byte = random.byte();
@@ -125,7 +91,7 @@ fn take<S: Shelf>(
     let before = buffer.clone()?;
     let told = shelf.take(number, buffer.as_mut_slice());
     if room < 1500 {
-        seen.short = true;
+        course.short = true;
         agree(told.is_err(), "take refuses")?;
         return agree(
             same(buffer.as_slice(), before.as_slice()),
@@ -134,14 +100,14 @@ fn take<S: Shelf>(
     }
     match (told, model.take(number)) {
         (Ok(None), None) => {
-            seen.absent = true;
+            course.absent = true;
             agree(
                 same(buffer.as_slice(), before.as_slice()),
                 "take's buffer, absent",
             )
         }
         (Ok(Some(length)), Some(packet)) => {
-            seen.taken = true;
+            course.taken = true;
             agree(length == packet.len() && length <= room, "take's length")?;
             let (front, rest) = buffer.as_slice().split_at(length.min(buffer.len()));
             let (_, old) = before.as_slice().split_at(length.min(before.len()));
@@ -160,23 +126,23 @@ fn call<S: Shelf>(
     shelf: &mut S,
     model: &mut Model,
     random: &mut Random,
-    seen: &mut Seen,
+    course: &mut Course,
 ) -> Result<(), AnyError> {
     match random.below(400) {
         0 => {
             shelf.clear();
             model.clear(heap);
         }
-        1..=230 => put(heap, shelf, model, random, seen)?,
-        _ => take(heap, shelf, model, random, seen)?,
+        1..=230 => put(heap, shelf, model, random, course)?,
+        _ => take(heap, shelf, model, random, course)?,
     }
-    let number = random.number();
+    let number = random.below(course.numbers);
     agree(shelf.holds(number) == model.holds(number), "holds")?;
     agree(
         shelf.least_above(number) == model.least_above(number),
         "least_above",
     )?;
-    let length = random.length();
+    let length = any_length(random);
     agree(
         u64::from(shelf.price(length)) == model.price(length),
         "price",
@@ -189,14 +155,12 @@ fn trial<S: Shelf + Drop>(
     name: &str,
     mut shelf: S,
     mut model: Model,
-    numbers: u16,
+    numbers: u32,
 ) -> Result<(), AnyError> {
     let heap = rt.alloc();
-    let mut random = Random {
-        state: 88_172_645_463_325_252,
+    let mut random = Random::new(88_172_645_463_325_252);
+    let mut course = Course {
         numbers,
-    };
-    let mut seen = Seen {
         short: false,
         length: false,
         held: false,
@@ -206,10 +170,10 @@ fn trial<S: Shelf + Drop>(
     };
     shelf.clear();
     for _ in 0..CALLS {
-        call(heap, &mut shelf, &mut model, &mut random, &mut seen)?;
+        call(heap, &mut shelf, &mut model, &mut random, &mut course)?;
     }
     agree(
-        seen.short && seen.length && seen.held && seen.full && seen.taken && seen.absent,
+        course.short && course.length && course.held && course.full && course.taken && course.absent,
         "an answer was never met",
     )?;
     println!(rt, "{name}: {CALLS} calls agree")?;
