@@ -1,15 +1,14 @@
 //! One book: its row in the table, and what a message makes of it.
 ghost use mathlib.Core.Path.{_≡_};
-ghost use Prim.Native.Nat.{ℕ};
 ghost use lib.ListN.{length};
 ghost use Rattle.books.specs.Entering.{known, limited, filled, told, points-of, point-at};
-use crate::level::BuyRank;
-use crate::level::Buys;
+use crate::buys::BuyRank;
+use crate::buys::Buys;
 use crate::level::Level;
 use crate::level::Point;
-use crate::level::SellRank;
-use crate::level::Sells;
 use crate::level::change;
+use crate::sells::SellRank;
+use crate::sells::Sells;
 use wire::Side;
 use wire::delta_count;
 use wire::delta_point;
