@@ -1,14 +1,13 @@
 -- The laws of a keeper.
-use mathlib.Core.Path.{_≡_, refl, sym, ap, subst, _∙_}
+use mathlib.Core.Path.{_≡_, refl, ap, _∙_}
 use mathlib.Core.Bool.{Bool, true, false, cond}
 use mathlib.Core.List.{List, [], _∷_}
-use Prim.Native.Nat.{ℕ, zero, suc, _-_, _<_, _≤_}
+use Prim.Native.Nat.{ℕ, zero, suc, _<_, _≤_}
 use native.Mathlib.Omega.{arith}
 use lib.ListN.{length, getD, set, replicate}
 use lib.Dec.{eqb, leb}
 use Rattle.std.specs.shelf.Lists.{All}
-use Rattle.std.specs.declared.option.Option.{Option}
-use Rattle.std.specs.declared.option.Option.the-variants.{Some, None}
+use Rattle.std.specs.declared.option.Option.the-variants.{Some}
 use Rattle.std.proofs.shelf.Elements.{all-set}
 use Rattle.std.proofs.shelf.Tests.{cond-both, cond-true, leb-true, le-leb}
 use Rattle.wire.specs.declared.point.Side.{Side}
@@ -21,7 +20,7 @@ use Rattle.books.specs.declared.level.Level.{Level}
 use Rattle.books.specs.declared.level.Point.{Point}
 use Rattle.books.specs.Levels.{price-of, before, changed}
 use Rattle.books.specs.Entering.{Known, unknown, emptied, touched-at, levels, put, put-all, limited, filled, full-points, delta-points}
-use Rattle.books.specs.Keepers.{Kept, keeper-step, fresh, at-book, nth, book-of}
+use Rattle.books.specs.Keepers.{Kept, keeper-step, at-book, nth, book-of}
 use Rattle.books.specs.Laws.{Laddered, InOrder, Points-fit, Keeping}
 
 -- both sides of a book are in order

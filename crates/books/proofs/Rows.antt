@@ -1,5 +1,5 @@
 -- A book among the others.
-use mathlib.Core.Path.{_≡_, refl, sym, ap, subst, _∙_}
+use mathlib.Core.Path.{_≡_, refl, sym, ap, _∙_}
 use mathlib.Core.List.{List, [], _∷_}
 use Prim.Native.Nat.{ℕ, zero, suc, _+_, _-_, _*_, _/_, _<_, _≤_, min}
 use native.Mathlib.Nat.{div-zero, div-mul-le-self, le-div-iff-mul-le, div-lt-iff-lt-mul}
@@ -12,7 +12,7 @@ use Rattle.books.specs.declared.level.Level.{Level}
 use Rattle.books.specs.declared.book.Book.{Book}
 use Rattle.std.specs.declared.option.Option.the-variants.{Some, None}
 use Rattle.books.specs.Entering.{Known, known, unknown}
-use Rattle.books.specs.Keepers.{parts, cut, each-known, tabled, changed-at, nth, book-of, shown, blank, Spot, Nowhere}
+use Rattle.books.specs.Keepers.{cut, each-known, tabled, changed-at, nth, book-of, shown, blank, Spot, Nowhere}
 use Rattle.books.proofs.Parts.{part-end, length-parts, parts-get, cut-put}
 
 length-known : (bs : List Book) (xs : List (List Level)) (ys : List (List Level)) → length (each-known bs xs ys) ≡ min (min (length bs) (length xs)) (length ys)

@@ -1,9 +1,9 @@
 -- A book as it is known, and what the points of a message make of it.
 use mathlib.Core.Bool.{Bool, true, false, cond}
 use mathlib.Core.List.{List, [], _∷_, map}
-use Prim.Native.Nat.{ℕ, _*_, _/_, _≤_}
+use Prim.Native.Nat.{ℕ, _*_, _/_}
 use lib.ListN.{length, take}
-use lib.Dec.{ltb, leb}
+use lib.Dec.{leb}
 use denote.Ref.{now}
 use Rattle.std.specs.Iters.{counting}
 use Rattle.std.specs.Options.{mapped}
@@ -45,10 +45,12 @@ abbrev pub levels : Side → Known → List Level
 levels Buy b = b .buys
 levels Sell b = b .sells
 
+-- a book with other levels on one side
 abbrev pub with-levels : Side → List Level → Known → Known
 with-levels Buy xs b = record { whole = b .whole; touched = b .touched; buys = xs; sells = b .sells }
 with-levels Sell xs b = record { whole = b .whole; touched = b .touched; buys = b .buys; sells = xs }
 
+-- a book that data with the number n touches
 abbrev pub touched-at : ℕ → Known → Known
 touched-at n b = record { whole = b .whole; touched = n; buys = b .buys; sells = b .sells }
 
@@ -70,28 +72,31 @@ abbrev pub filled : ℕ → List Point → Known → Known
 filled d [] b = b
 filled d (p ∷ ps) b = cond (b .whole) (filled d ps (limited d (p .side) (p .level) b)) b
 
--- the points of a full update, and of a delta, at the scale of the message
+-- the points of a full update, at the scale of the message
 abbrev pub full-points : ℕ → List ℕ → List Point
 full-points scale bs = map (λ i. named scale (full-at bs (i * 12))) (counting 0 (length bs / 12))
 
+-- the points of a delta, at the scale of the message
 abbrev pub delta-points : ℕ → List ℕ → List Point
 delta-points scale bs = map (λ i. named scale (delta-at bs (i * 28) .level)) (counting 0 (length bs / 28))
 
--- the points as the code holds them: all, and the one at an index
+-- the points that a value of the code stands for
 abbrev pub points-of : Points → List Point
 points-of (points.Full scale bs) = full-points scale (now bs)
 points-of (points.Delta scale bs) = delta-points scale (now bs)
 
+-- the point at an index, if there is one
 abbrev pub point-at : Points → ℕ → Option Point
 point-at (points.Full scale bs) i = mapped (named scale) (full-point (now bs) i)
 point-at (points.Delta scale bs) i = mapped (λ p. named scale (p .level)) (delta-point (now bs) i)
 
--- a book as a message with points begins, and where it is not taken: out of a refresh that is older than the book
+-- a book as a message with points begins
 abbrev pub begun : Start → Known → Known
 begun (start.Full n) b = emptied true n
 begun (start.Delta n) b = touched-at n b
 begun (start.Refresh n) b = emptied true (b .touched)
 
+-- whether a message is taken: not one out of a refresh that is older than the book's last touch
 abbrev pub taken : Start → Known → Bool
 taken (start.Full n) b = true
 taken (start.Delta n) b = true

@@ -9,25 +9,24 @@ use denote.Ref.{now}
 use Rattle.std.specs.declared.option.Option.{Option}
 use Rattle.std.specs.declared.option.Option.the-variants.{Some, None}
 use Rattle.wire.specs.declared.point.Side.{Side}
-use Rattle.wire.specs.Reading.{Msg, reset, unavailable, mapping, full, delta}
+use Rattle.wire.specs.Reading.{reset, unavailable, mapping, full, delta}
 use Rattle.sink.specs.Events.{Event, data-of, loss-of, refresh-of, restart-of}
 use Rattle.books.specs.declared.level.Level.{Level}
-use Rattle.books.specs.declared.level.Point.{Point}
 use Rattle.books.specs.declared.book.Book.{Book}
-use Rattle.books.specs.declared.book.Start.{Start}
 use Rattle.books.specs.declared.tables.TableFault.{TableFault}
 use Rattle.books.specs.declared.tables.TableFault.the-variants.{Sizes}
 use Rattle.books.specs.declared.tables.Tables.{Tables}
 use Rattle.books.specs.declared.keeper.BookKeeper.{BookKeeper}
-use Rattle.books.specs.Entering.{Known, known, unknown, emptied, touched-at, levels, filled, full-points, delta-points, told}
+use Rattle.books.specs.Entering.{Known, known, unknown, emptied, touched-at, levels, filled, full-points, delta-points}
 
 -- the number of a refusal
 abbrev pub fault-number : TableFault → ℕ
 fault-number Sizes = 22
 
--- tables of 1 to 1,024 books, and for each 1 to 4,096 levels a side
-abbrev pub sizes-fit : ℕ → ℕ → ℕ → ℕ → Bool
-sizes-fit books buys sells depth = leb 1 books && leb books 1024 && leb 1 depth && leb depth 4096 && eqb buys (books * depth) && eqb sells (books * depth)
+-- tables of 1 to 1,024 books, and for each book 1 to 4,096 levels a side
+abbrev pub tables-fit : List Book → List Level → List Level → ℕ → Bool
+tables-fit books buys sells depth =
+    leb 1 (length books) && leb (length books) 1024 && leb 1 depth && leb depth 4096 && eqb (length buys) (length books * depth) && eqb (length sells) (length books * depth)
 
 -- n parts of xs, each of d elements
 abbrev pub parts : {X : Type 0} → ℕ → ℕ → List X → List (List X)
@@ -49,10 +48,14 @@ each-known (b ∷ bs) (x ∷ xs) [] = []
 abbrev pub tabled : ℕ → List Book → List Level → List Level → List Known
 tabled d bs xs ys = each-known bs (cut d xs) (cut d ys)
 
+-- the books of tables that were checked
+abbrev pub tables-known : Tables → List Known
+tables-known t = tabled (t .depth) (now (t .books)) (now (t .buys)) (now (t .sells))
+
 -- tables that passed the check: n books at the depth d
 pub record Checked (t : Tables) (n d : ℕ) : Type 0 where
   pub depth : t .depth ≡ d
-  pub count : length (tabled (t .depth) (now (t .books)) (now (t .buys)) (now (t .sells))) ≡ n
+  pub count : length (tables-known t) ≡ n
 
 -- What a keeper stands for: the most levels of a side, the loss mark, which is the last number that may have been missed, and the books.
 pub record Kept : Type 0 where
@@ -60,6 +63,7 @@ pub record Kept : Type 0 where
   pub mark : ℕ
   pub books : List Known
 
+-- the meaning of a keeper's value
 abbrev pub keeper-means : BookKeeper → Kept
 keeper-means k = record { depth = k .depth; mark = k .mark; books = tabled (k .depth) (now (k .books)) (now (k .buys)) (now (k .sells)) }
 
@@ -72,6 +76,7 @@ abbrev pub changed-at : ℕ → (Known → Known) → List Known → List Known
 changed-at zero f bs = bs
 changed-at (suc i) f bs = set bs i (f (getD bs i unknown))
 
+-- the same in a keeper
 abbrev pub at-book : ℕ → (Known → Known) → Kept → Kept
 at-book i f k = record { depth = k .depth; mark = k .mark; books = changed-at i f (k .books) }
 

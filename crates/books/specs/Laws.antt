@@ -3,9 +3,8 @@ use mathlib.Core.Path.{_≡_}
 use mathlib.Core.Bool.{true}
 use mathlib.Core.List.{List, [], _∷_}
 use Prim.Native.Nat.{ℕ, suc, _≤_, _<_}
-use lib.ListN.{length, getD}
+use lib.ListN.{length}
 use Rattle.std.specs.shelf.Lists.{All}
-use Rattle.std.specs.declared.option.Option.{Option}
 use Rattle.std.specs.declared.option.Option.the-variants.{Some}
 use Rattle.wire.specs.declared.point.Side.{Side}
 use Rattle.wire.specs.Reading.{full}
@@ -13,7 +12,7 @@ use Rattle.ladder.specs.Laws.{Sorted}
 use Rattle.sink.specs.Events.{Event, data-of, refresh-of}
 use Rattle.books.specs.declared.level.Point.{Point}
 use Rattle.books.specs.Levels.{price-of, before}
-use Rattle.books.specs.Entering.{Known, unknown, emptied, levels, put, put-all, full-points}
+use Rattle.books.specs.Entering.{Known, emptied, levels, put, put-all, full-points}
 use Rattle.books.specs.Keepers.{Kept, fresh, keeper-step, book-of}
 
 -- a side in order: each level strictly before the next, and at most d of them

@@ -2,7 +2,6 @@
 ghost use mathlib.Core.Path.{_≡_};
 ghost use Prim.Native.Nat.{_<_};
 ghost use lib.ListN.{length, take};
-ghost use lib.Dec.{ltb};
 ghost use Rattle.std.specs.Options.{Cases as BySome};
 ghost use Rattle.ladder.specs.Ladders.{Holds};
 ghost use Rattle.books.specs.Levels.{changed, named};
@@ -16,50 +15,6 @@ pub struct Level {
     pub price: u64,
     pub volume: u32,
     pub orders: u16,
-}
-
-/// The rank of buy levels: the higher price comes first.
-#[derive(Drop)]
-pub struct Buys;
-
-/// The rank of sell levels: the lower price comes first.
-#[derive(Drop)]
-pub struct Sells;
-
-pub impl Rank for Buys as BuyRank {
-    type Row = Level;
-
-    type Key = u64;
-
-    ghost keyed = { λ l. l .price };
-
-    ghost before = { λ a b. ltb b a };
-
-    fn key(row: &Level) -> u64 {
-        row.price
-    }
-
-    fn precedes(a: u64, b: u64) -> bool {
-        b < a
-    }
-}
-
-pub impl Rank for Sells as SellRank {
-    type Row = Level;
-
-    type Key = u64;
-
-    ghost keyed = { λ l. l .price };
-
-    ghost before = { λ a b. ltb a b };
-
-    fn key(row: &Level) -> u64 {
-        row.price
-    }
-
-    fn precedes(a: u64, b: u64) -> bool {
-        a < b
-    }
 }
 
 /// A level that a message names, and its side.

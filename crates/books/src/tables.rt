@@ -1,11 +1,11 @@
 //! The three lent tables of a keeper: books, and the levels of the two sides of each.
 ghost use mathlib.Core.Path.{_≡_};
 ghost use mathlib.Core.Bool.{true, false};
-ghost use Prim.Native.Nat.{ℕ, _+_, _*_, _<_, _≤_, suc};
+ghost use Prim.Native.Nat.{_+_, _*_, _<_, _≤_};
 ghost use lib.ListN.{length, take, drop};
 ghost use Rattle.std.specs.Options.{Cases as BySome};
 ghost use Rattle.std.specs.Results.{Cases as ByOk};
-ghost use Rattle.books.specs.Keepers.{fault-number, sizes-fit, tabled, Checked, Spot, Nowhere, changed-at, nth};
+ghost use Rattle.books.specs.Keepers.{fault-number, tables-fit, tabled, Checked, Spot, Nowhere, changed-at, nth};
 ghost use Rattle.books.specs.Entering.{told, points-of};
 use crate::book::Book;
 use crate::book::Points;
@@ -42,7 +42,7 @@ pub struct Tables<'a, 'b, 'c> {
 
 // Whether tables are a keeper's at a depth.
 fn fit(books: &[Book], buys: &[Level], sells: &[Level], depth: usize) -> bool
-    ensures is { λ r. ⌜ r ≡ sizes-fit (length (now (books .entry))) (length (now (buys .entry))) (length (now (sells .entry))) depth ⌝ }
+    ensures is { λ r. ⌜ r ≡ tables-fit (now (books .entry)) (now (buys .entry)) (now (sells .entry)) depth ⌝ }
     ensures count { λ r. ⌜ (r ≡ true → length (tabled depth (now (books .entry)) (now (buys .entry)) (now (sells .entry))) ≡ length (now (books .entry))) ⌝ }
     ensures depth { λ r. ⌜ (r ≡ true → depth ≤ 4096) ⌝ }
 {
@@ -61,7 +61,7 @@ impl<'a, 'b, 'c> Tables<'a, 'b, 'c> {
         sells: &'c mut [Level],
         depth: usize,
     ) -> Result<Tables<'a, 'b, 'c>, TableFault>
-        ensures { λ r. ⌜ ByOk r (λ t. (sizes-fit (length (now (books .entry))) (length (now (buys .entry))) (length (now (sells .entry))) depth ≡ true) × Checked t (length (now (books .entry))) depth) (λ f. sizes-fit (length (now (books .entry))) (length (now (buys .entry))) (length (now (sells .entry))) depth ≡ false) ⌝ }
+        ensures { λ r. ⌜ ByOk r (λ t. (tables-fit (now (books .entry)) (now (buys .entry)) (now (sells .entry)) depth ≡ true) × Checked t (length (now (books .entry))) depth) (λ f. tables-fit (now (books .entry)) (now (buys .entry)) (now (sells .entry)) depth ≡ false) ⌝ }
     {
         if !fit(books, buys, sells, depth) {
             return Err(TableFault::Sizes);

@@ -4,7 +4,7 @@ use native.Mathlib.Omega.{arith}
 use lib.ListN.{length, getD}
 use Rattle.wire.specs.declared.point.Side.the-variants.{Buy}
 use Rattle.books.specs.declared.level.Point.{Point}
-use Rattle.books.specs.Entering.{known, limited, points-of, point-at}
+use Rattle.books.specs.Entering.{known, limited, points-of}
 use Rattle.books.proofs.Filling.{not-whole, ends, goes-on, point-is}
 use Rattle.books.proofs.book.fill.Needs as need
 

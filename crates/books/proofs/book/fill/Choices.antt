@@ -1,5 +1,5 @@
 use mathlib.Core.Path.{_≡_}
-use lib.ListN.{length, drop}
+use lib.ListN.{drop}
 use Rattle.books.specs.Entering.{known, filled, points-of}
 use Rattle.books.proofs.book.fill.Given as given
 

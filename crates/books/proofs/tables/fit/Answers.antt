@@ -1,5 +1,4 @@
 use mathlib.Core.Path.{refl}
-use native.Mathlib.Omega.{arith}
 use Prim.Native.Nat.{_*_}
 use lib.ListN.{length}
 use Rattle.std.proofs.shelf.Tests.{le-leb, eq-eqb, eqb-true}

@@ -1,6 +1,5 @@
 use native.Mathlib.Omega.{arith}
 use mathlib.Core.Logic.{⊎-elim}
-use mathlib.Core.Path.{sym}
 use Prim.Native.Nat.{_-_}
 use Rattle.books.specs.Keepers.{tabled, Nowhere}
 use Rattle.books.proofs.Rows.{room-is, room-none, spotted, past, zeroth, n-there, n-past-buys, n-past-sells}
