@@ -6,7 +6,19 @@ use std::alloc::AllocError;
 use std::alloc::Global;
 
 const TENTH: u64 = 100_000_000;
-const POWERS: [u32; 10] = [1, 10, 100, 1_000, 10_000, 100_000, 1_000_000, 10_000_000, 100_000_000, 1_000_000_000];
+
+const POWERS: [u32; 10] = [
+    1,
+    10,
+    100,
+    1_000,
+    10_000,
+    100_000,
+    1_000_000,
+    10_000_000,
+    100_000_000,
+    1_000_000_000,
+];
 
 /// A random point at one of so many prices: whole dollars at scale 0, tenths of a dollar at the others.
 pub fn any_point(random: &mut Random, scale: u8, prices: u32) -> Point {
@@ -15,8 +27,16 @@ pub fn any_point(random: &mut Random, scale: u8, prices: u32) -> Point {
     } else {
         1 + u64::from(random.below(prices.min(40)))
     };
-    let volume = if random.one_in(3) { 0 } else { random.below(900) };
-    let changed = if random.one_in(50) { u32::MAX } else { random.below(500) };
+    let volume = if random.one_in(3) {
+        0
+    } else {
+        random.below(900)
+    };
+    let changed = if random.one_in(50) {
+        u32::MAX
+    } else {
+        random.below(500)
+    };
     Point {
         buy: random.one_in(2),
         price: price.wrapping_mul(TENTH),
@@ -76,7 +96,14 @@ pub fn delta_bytes(heap: Global, points: &[Point], scale: u8) -> Result<Vec<u8>,
 }
 
 fn level_point(buy: bool, price: u64, volume: u32, orders: u16) -> Point {
-    Point { buy, price, volume, orders, executed: false, changed: 0 }
+    Point {
+        buy,
+        price,
+        volume,
+        orders,
+        executed: false,
+        changed: 0,
+    }
 }
 
 /// The points of a whole book.

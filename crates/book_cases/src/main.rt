@@ -26,9 +26,44 @@ use tally::Tally;
 use tally::TallySink;
 use wire::Message;
 use wire::Side;
+use wire::read;
 
 const EVENTS: u32 = 10_000;
+
 const BOOKS: u16 = 4;
+
+const MAPPING: [u8; 30] = [
+    0,
+    28,
+    0,
+    35,
+    0,
+    0,
+    0,
+    1,
+    0,
+    0,
+    0,
+    0,
+    115,
+    1,
+    1,
+    0,
+    0,
+    0,
+    0,
+    0,
+    0,
+    0,
+    0,
+    0,
+    0,
+    0,
+    0,
+    0,
+    0,
+    0,
+];
 
 // What stands beside the proved sinks: the books as they should be kept, the books as they are in truth, and as they were some time ago.
 #[derive(Drop)]
@@ -58,7 +93,12 @@ fn copied(heap: Global, sides: &Sides) -> Result<Sides, AllocError> {
     Ok(copy)
 }
 
-fn any_points(heap: Global, random: &mut Random, scale: u8, prices: u32) -> Result<Vec<Point>, AllocError> {
+fn any_points(
+    heap: Global,
+    random: &mut Random,
+    scale: u8,
+    prices: u32,
+) -> Result<Vec<Point>, AllocError> {
     let mut points = Vec::new(heap);
     for _ in 0..random.below(4) + 1 {
         points.push(any_point(random, scale, prices))?;
@@ -77,7 +117,18 @@ impl Beside {
             old.push(Sides::new(heap))?;
         }
         let volumes = Volumes::new(heap, room);
-        Ok(Beside { kept, truth, old, old_number: 0, mark: 0, volumes, depth, used_refreshes: 0, whole_seen: 0, overflows: 0 })
+        Ok(Beside {
+            kept,
+            truth,
+            old,
+            old_number: 0,
+            mark: 0,
+            volumes,
+            depth,
+            used_refreshes: 0,
+            whole_seen: 0,
+            overflows: 0,
+        })
     }
 
     fn forget(&mut self, heap: Global, mark: u32) {
@@ -88,7 +139,13 @@ impl Beside {
     }
 
     // The truth moves on, whether the message is seen or not.
-    fn happen(&mut self, heap: Global, index: u16, points: &[Point], full: bool) -> Result<(), AllocError> {
+    fn happen(
+        &mut self,
+        heap: Global,
+        index: u16,
+        points: &[Point],
+        full: bool,
+    ) -> Result<(), AllocError> {
         if let Some(sides) = self.truth.get_mut(usize::from(index).wrapping_sub(1)) {
             if full {
                 sides.clear(heap);
@@ -100,7 +157,14 @@ impl Beside {
         Ok(())
     }
 
-    fn hear(&mut self, heap: Global, number: u32, index: u16, points: &[Point], full: bool) -> Result<(), AllocError> {
+    fn hear(
+        &mut self,
+        heap: Global,
+        number: u32,
+        index: u16,
+        points: &[Point],
+        full: bool,
+    ) -> Result<(), AllocError> {
         let depth = self.depth;
         if let Some(book) = self.kept.get_mut(usize::from(index).wrapping_sub(1)) {
             book.touched = number;
@@ -116,7 +180,13 @@ impl Beside {
         Ok(())
     }
 
-    fn refresh(&mut self, heap: Global, number: u32, index: u16, points: &[Point]) -> Result<(), AllocError> {
+    fn refresh(
+        &mut self,
+        heap: Global,
+        number: u32,
+        index: u16,
+        points: &[Point],
+    ) -> Result<(), AllocError> {
         let depth = self.depth;
         let mark = self.mark;
         if let Some(book) = self.kept.get_mut(usize::from(index).wrapping_sub(1)) {
@@ -144,7 +214,14 @@ impl Beside {
 type Sinks<'a, 'b, 'c, 'd> = Twin<BookKeeper<'a, 'b, 'c>, Tally<'d>>;
 
 // A message with points in its turn, told to both.
-fn data(heap: Global, sinks: &mut Sinks<'_, '_, '_, '_>, beside: &mut Beside, random: &mut Random, number: u32, prices: u32) -> Result<(), AnyError> {
+fn data(
+    heap: Global,
+    sinks: &mut Sinks<'_, '_, '_, '_>,
+    beside: &mut Beside,
+    random: &mut Random,
+    number: u32,
+    prices: u32,
+) -> Result<(), AnyError> {
     let full = random.one_in(8);
     let index = random.below(u32::from(BOOKS) + 2) as u16;
     let scale = random.below(10) as u8;
@@ -159,15 +236,34 @@ fn data(heap: Global, sinks: &mut Sinks<'_, '_, '_, '_>, beside: &mut Beside, ra
     beside.hear(heap, number, index, points.as_slice(), full)?;
     if full {
         let bytes = full_bytes(heap, points.as_slice(), scale)?;
-        let message = Message::Full { index, scale, points: bytes.as_slice() };
+        let message = Message::Full {
+            index,
+            scale,
+            points: bytes.as_slice(),
+        };
         sinks.data(number, message);
     } else {
         beside.volumes.add(index, points.as_slice())?;
         let bytes = delta_bytes(heap, points.as_slice(), scale)?;
-        let message = Message::Delta { index, scale, points: bytes.as_slice() };
+        let message = Message::Delta {
+            index,
+            scale,
+            points: bytes.as_slice(),
+        };
         sinks.data(number, message);
     }
     Ok(())
+}
+
+// A symbol mapping, which changes nothing.
+fn mapping(sinks: &mut Sinks<'_, '_, '_, '_>, number: u32) -> Result<(), AnyError> {
+    match read(&MAPPING) {
+        Ok(packet) => {
+            sinks.data(number, packet.message);
+            Ok(())
+        }
+        Err(_) => Err("mapping refused".into()),
+    }
 }
 
 fn points_at(heap: Global, books: &Vec<Sides>, at: usize) -> Result<Vec<Point>, AllocError> {
@@ -178,29 +274,54 @@ fn points_at(heap: Global, books: &Vec<Sides>, at: usize) -> Result<Vec<Point>, 
 }
 
 // A true book as of now, or as of some time ago.
-fn refresh(heap: Global, sinks: &mut Sinks<'_, '_, '_, '_>, beside: &mut Beside, random: &mut Random, number: u32) -> Result<(), AnyError> {
+fn refresh(
+    heap: Global,
+    sinks: &mut Sinks<'_, '_, '_, '_>,
+    beside: &mut Beside,
+    random: &mut Random,
+    number: u32,
+) -> Result<(), AnyError> {
     let index = 1 + random.below(u32::from(BOOKS)) as u16;
     let scale = 1 + random.below(9) as u8;
     let at = usize::from(index).wrapping_sub(1);
     let late = random.one_in(3);
     let number = if late { beside.old_number } else { number };
-    let points = if late { points_at(heap, &beside.old, at)? } else { points_at(heap, &beside.truth, at)? };
+    let points = if late {
+        points_at(heap, &beside.old, at)?
+    } else {
+        points_at(heap, &beside.truth, at)?
+    };
     beside.refresh(heap, number, index, points.as_slice())?;
     let bytes = full_bytes(heap, points.as_slice(), scale)?;
-    let message = Message::Full { index, scale, points: bytes.as_slice() };
+    let message = Message::Full {
+        index,
+        scale,
+        points: bytes.as_slice(),
+    };
     sinks.refresh(number, message);
     Ok(())
 }
 
-fn same_side(keeper: &BookKeeper<'_, '_, '_>, index: u16, side: Side, owed: &plain::Side, falling: bool) -> bool {
+fn same_side(
+    keeper: &BookKeeper<'_, '_, '_>,
+    index: u16,
+    side: Side,
+    owed: &plain::Side,
+    falling: bool,
+) -> bool {
     let count = owed.len();
     let mut place = if falling { count.wrapping_sub(1) } else { 0 };
     for (price, level) in owed.iter() {
         match keeper.level(index, side, place) {
-            Some(told) if told.price == *price && told.volume == level.0 && told.orders == level.1 => {}
+            Some(told)
+                if told.price == *price && told.volume == level.0 && told.orders == level.1 => {}
             _ => return false,
         }
-        place = if falling { place.wrapping_sub(1) } else { place.wrapping_add(1) };
+        place = if falling {
+            place.wrapping_sub(1)
+        } else {
+            place.wrapping_add(1)
+        };
     }
     keeper.level(index, side, count).is_none()
 }
@@ -223,7 +344,10 @@ fn same_levels(a: &plain::Side, b: &plain::Side) -> bool {
 fn compare(sinks: &Sinks<'_, '_, '_, '_>, beside: &mut Beside) -> Result<(), AnyError> {
     let keeper = sinks.first();
     agree(keeper.mark() == beside.mark, "mark")?;
-    agree(keeper.book(0).is_none() && keeper.book(BOOKS + 1).is_none(), "a book too many")?;
+    agree(
+        keeper.book(0).is_none() && keeper.book(BOOKS + 1).is_none(),
+        "a book too many",
+    )?;
     for index in 1..=BOOKS {
         let at = usize::from(index).wrapping_sub(1);
         let (Some(owed), Some(truth)) = (beside.kept.get(at), beside.truth.get(at)) else {
@@ -232,30 +356,52 @@ fn compare(sinks: &Sinks<'_, '_, '_, '_>, beside: &mut Beside) -> Result<(), Any
         let Some(told) = keeper.book(index) else {
             return Err("a book is missing".into());
         };
-        agree(told.whole == owed.whole && told.touched == owed.touched, "whole or touched")?;
-        agree(same_side(keeper, index, Side::Buy, &owed.sides.buys, true), "buys")?;
-        agree(same_side(keeper, index, Side::Sell, &owed.sides.sells, false), "sells")?;
+        agree(
+            told.whole == owed.whole && told.touched == owed.touched,
+            "whole or touched",
+        )?;
+        agree(
+            same_side(keeper, index, Side::Buy, &owed.sides.buys, true),
+            "buys",
+        )?;
+        agree(
+            same_side(keeper, index, Side::Sell, &owed.sides.sells, false),
+            "sells",
+        )?;
         if owed.whole {
             beside.whole_seen = beside.whole_seen.saturating_add(1);
-            agree(same_truth(&owed.sides, truth), "a whole book is not the true one")?;
+            agree(
+                same_truth(&owed.sides, truth),
+                "a whole book is not the true one",
+            )?;
         }
     }
     let tally = sinks.second();
     for index in 0..BOOKS + 2 {
-        agree(tally.executed(index) == beside.volumes.rows.get(&index).copied(), "executed")?;
+        agree(
+            tally.executed(index) == beside.volumes.rows.get(&index).copied(),
+            "executed",
+        )?;
     }
     let counters = tally.counters();
-    agree(counters.missed == beside.volumes.missed && counters.losses == beside.volumes.losses, "counters")
+    agree(
+        counters.missed == beside.volumes.missed && counters.losses == beside.volumes.losses,
+        "counters",
+    )
 }
 
-fn event(heap: Global, sinks: &mut Sinks<'_, '_, '_, '_>, beside: &mut Beside, random: &mut Random, number: u32, prices: u32) -> Result<(), AnyError> {
+fn event(
+    heap: Global,
+    sinks: &mut Sinks<'_, '_, '_, '_>,
+    beside: &mut Beside,
+    random: &mut Random,
+    number: u32,
+    prices: u32,
+) -> Result<(), AnyError> {
     match random.below(100) {
         0..=74 => data(heap, sinks, beside, random, number, prices)?,
         75..=94 => refresh(heap, sinks, beside, random, number.saturating_sub(1))?,
-        95 => {
-            let message = Message::Mapping;
-            sinks.data(number, message);
-        }
+        95 => mapping(sinks, number)?,
         96 => {
             sinks.restart(number);
             beside.forget(heap, number.saturating_sub(1));
@@ -268,11 +414,32 @@ fn event(heap: Global, sinks: &mut Sinks<'_, '_, '_, '_>, beside: &mut Beside, r
 fn trial(rt: &LibcRuntime, depth: u16, room: u16, prices: u32) -> Result<(), AnyError> {
     let heap = rt.alloc();
     let levels = usize::from(BOOKS) * usize::from(depth);
-    let mut books = vec![in heap; Book { whole: true, touched: 9, buys: 1, sells: 1 }; usize::from(BOOKS)]?;
-    let mut buys = vec![in heap; Level { price: 7, volume: 7, orders: 7 }; levels]?;
-    let mut sells = vec![in heap; Level { price: 7, volume: 7, orders: 7 }; levels]?;
-    let mut rows = vec![in heap; Row { index: 7, executed: 7 }; usize::from(room)]?;
-    let Ok(tables) = Tables::check(books.as_mut_slice(), buys.as_mut_slice(), sells.as_mut_slice(), usize::from(depth)) else {
+    let mut books = vec![in heap; Book {
+        whole: true,
+        touched: 9,
+        buys: 1,
+        sells: 1
+    }; usize::from(BOOKS)]?;
+    let mut buys = vec![in heap; Level {
+        price: 7,
+        volume: 7,
+        orders: 7
+    }; levels]?;
+    let mut sells = vec![in heap; Level {
+        price: 7,
+        volume: 7,
+        orders: 7
+    }; levels]?;
+    let mut rows = vec![in heap; Row {
+        index: 7,
+        executed: 7
+    }; usize::from(room)]?;
+    let Ok(tables) = Tables::check(
+        books.as_mut_slice(),
+        buys.as_mut_slice(),
+        sells.as_mut_slice(),
+        usize::from(depth),
+    ) else {
         return Err("tables refused".into());
     };
     let mut sinks = Twin::new(BookKeeper::new(tables), Tally::new(rows.as_mut_slice()));
@@ -282,7 +449,10 @@ fn trial(rt: &LibcRuntime, depth: u16, room: u16, prices: u32) -> Result<(), Any
     for number in 1..EVENTS + 1 {
         event(heap, &mut sinks, &mut beside, &mut random, number, prices)?;
     }
-    agree(beside.used_refreshes > 100 && beside.whole_seen > 100 && beside.overflows > 0, "a case was never met")?;
+    agree(
+        beside.used_refreshes > 100 && beside.whole_seen > 100 && beside.overflows > 0,
+        "a case was never met",
+    )?;
     println!(rt, "depth {depth}, rows {room}: {EVENTS} events agree")?;
     Ok(())
 }

@@ -26,12 +26,19 @@ pub struct Sides {
 
 impl Sides {
     pub fn new(heap: Global) -> Sides {
-        Sides { buys: BTreeMap::new(heap), sells: BTreeMap::new(heap) }
+        Sides {
+            buys: BTreeMap::new(heap),
+            sells: BTreeMap::new(heap),
+        }
     }
 
     /// Removes or sets one level.
     pub fn enter(&mut self, point: Point) -> Result<(), AllocError> {
-        let side = if point.buy { &mut self.buys } else { &mut self.sells };
+        let side = if point.buy {
+            &mut self.buys
+        } else {
+            &mut self.sells
+        };
         enter_level(side, point)
     }
 
@@ -60,7 +67,11 @@ pub struct Book {
 
 impl Book {
     pub fn new(heap: Global) -> Book {
-        Book { whole: false, touched: 0, sides: Sides::new(heap) }
+        Book {
+            whole: false,
+            touched: 0,
+            sides: Sides::new(heap),
+        }
     }
 
     pub fn forget(&mut self, heap: Global) {
@@ -101,7 +112,12 @@ pub struct Volumes {
 
 impl Volumes {
     pub fn new(heap: Global, room: usize) -> Volumes {
-        Volumes { rows: BTreeMap::new(heap), room, missed: 0, losses: 0 }
+        Volumes {
+            rows: BTreeMap::new(heap),
+            room,
+            missed: 0,
+            losses: 0,
+        }
     }
 
     pub fn add(&mut self, index: u16, points: &[Point]) -> Result<(), AllocError> {

@@ -173,7 +173,12 @@ fn trial<S: Shelf + Drop>(
         call(heap, &mut shelf, &mut model, &mut random, &mut course)?;
     }
     agree(
-        course.short && course.length && course.held && course.full && course.taken && course.absent,
+        course.short
+            && course.length
+            && course.held
+            && course.full
+            && course.taken
+            && course.absent,
         "an answer was never met",
     )?;
     println!(rt, "{name}: {CALLS} calls agree")?;
