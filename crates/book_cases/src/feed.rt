@@ -27,22 +27,22 @@ pub fn any_point(random: &mut Random, scale: u8, prices: u32) -> Point {
     } else {
         1 + u64::from(random.below(prices.min(40)))
     };
-    let volume = if random.one_in(3) {
+    let volume = if random.below(3) == 0 {
         0
     } else {
         random.below(900)
     };
-    let changed = if random.one_in(50) {
+    let changed = if random.below(50) == 0 {
         u32::MAX
     } else {
         random.below(500)
     };
     Point {
-        buy: random.one_in(2),
+        buy: random.below(2) == 0,
         price: price.wrapping_mul(TENTH),
         volume,
         orders: random.below(90) as u16,
-        executed: random.one_in(3),
+        executed: random.below(3) == 0,
         changed,
     }
 }

@@ -222,12 +222,12 @@ fn data(
     number: u32,
     prices: u32,
 ) -> Result<(), AnyError> {
-    let full = random.one_in(8);
+    let full = random.below(8) == 0;
     let index = random.below(u32::from(BOOKS) + 2) as u16;
     let scale = random.below(10) as u8;
     let points = any_points(heap, random, scale, prices)?;
     beside.happen(heap, index, points.as_slice(), full)?;
-    if random.one_in(20) {
+    if random.below(20) == 0 {
         sinks.loss(number);
         beside.forget(heap, number);
         beside.volumes.losses = beside.volumes.losses.saturating_add(1);
@@ -284,7 +284,7 @@ fn refresh(
     let index = 1 + random.below(u32::from(BOOKS)) as u16;
     let scale = 1 + random.below(9) as u8;
     let at = usize::from(index).wrapping_sub(1);
-    let late = random.one_in(3);
+    let late = random.below(3) == 0;
     let number = if late { beside.old_number } else { number };
     let points = if late {
         points_at(heap, &beside.old, at)?

@@ -1,19 +1,28 @@
 //! Random choices from a fixed seed, for programs that run many cases.
-ghost use Prim.Native.Nat.{_<_};
+ghost use mathlib.Core.Path.{_≡_};
+ghost use Prim.Native.Nat.{_<_, _%_};
 
-/// A source of numbers that is the same in every run.
+/// A source of numbers that is the same in every run. Its state is never 0, where it would stay.
 #[derive(Clone, Copy)]
 pub struct Random {
     state: u64,
 }
 
 impl Random {
-    pub fn new(seed: u64) -> Random {
-        Random { state: seed | 1 }
+    /// A source with this seed, made odd.
+    pub fn new(seed: u64) -> Random
+        ensures { λ r. ⌜ r .state % 2 ≡ 1 ⌝ }
+    {
+        if seed % 2 == 1 {
+            Random { state: seed }
+        } else {
+            Random {
+                state: seed.wrapping_add(1),
+            }
+        }
     }
 
-    /// The next number of 64 bits.
-    pub fn next(&mut self) -> u64 {
+    fn next(&mut self) -> u64 {
         let mut x = self.state;
         x ^= x << 13;
         x ^= x >> 7;
@@ -22,7 +31,7 @@ impl Random {
         x
     }
 
-    /// A number below `n`, which is 0 where `n` is.
+    /// A number below `n`, or 0 where `n` is.
     pub fn below(&mut self, n: u32) -> u32
         ensures { λ r. ⌜ (0 < n → r < n) ⌝ }
     {
@@ -31,15 +40,5 @@ impl Random {
         } else {
             (self.next() % u64::from(n)) as u32
         }
-    }
-
-    /// A random byte.
-    pub fn byte(&mut self) -> u8 {
-        (self.next() >> 24 & 0xff) as u8
-    }
-
-    /// True in about one of `n` calls.
-    pub fn one_in(&mut self, n: u32) -> bool {
-        self.below(n) == 0
     }
 }

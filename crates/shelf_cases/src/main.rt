@@ -59,7 +59,7 @@ fn put<S: Shelf>(
     let number = random.below(course.numbers);
     let mut packet = vec![in heap; 0u8; any_length(random)]?;
     for byte in packet.iter_mut() {
-        *byte = random.byte();
+        *byte = random.below(256) as u8;
     }
     let owed = model.put(heap, number, packet.as_slice())?;
     let told = match shelf.put(number, packet.as_slice()) {
@@ -86,7 +86,7 @@ fn take<S: Shelf>(
     let room = 1499 + random.below(8) as usize / 2;
     let mut buffer = vec![in heap; 0u8; room]?;
     for byte in buffer.iter_mut() {
-        *byte = random.byte();
+        *byte = random.below(256) as u8;
     }
     let before = buffer.clone()?;
     let told = shelf.take(number, buffer.as_mut_slice());

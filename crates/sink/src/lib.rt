@@ -19,7 +19,7 @@ pub trait Sink {
     fn data(&mut self, number: u32, message: Message<'_>)
         ensures { λ _. ⌜ means (now (self .exit)) ≡ step (data-of number (model (message .entry))) (means (now (self .entry))) ⌝ };
 
-    /// Numbers up to this one are lost.
+    /// This number is lost.
     fn loss(&mut self, number: u32)
         ensures { λ _. ⌜ means (now (self .exit)) ≡ step (loss-of number) (means (now (self .entry))) ⌝ };
 
