@@ -1,0 +1,4 @@
+pub mod Maps
+pub mod Numbers
+pub mod Order
+pub mod Rises

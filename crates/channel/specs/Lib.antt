@@ -1,0 +1,4 @@
+pub mod Faults
+pub mod Maps
+pub mod Machine
+pub mod Promise
