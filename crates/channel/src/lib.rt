@@ -1,9 +1,14 @@
 //! A channel: the packets of one stream, in order, each number once. Here is what its calls come to, and what is promised of any run of them.
 ghost use Rattle.channel.specs.Machine.{Waiting-rises};
 ghost use Rattle.channel.specs.Promise.{Order-stands, Last-stands, Taken-once};
+ghost use Rattle.channel.specs.Follows.{Calls-follow, Making-follows};
+use sink::Sink;
 
+mod claim;
 mod fault;
 
+pub use claim::Claim;
+pub use claim::Taken;
 pub use fault::ChannelFault;
 pub use fault::OfferFault;
 
@@ -25,4 +30,11 @@ pub fn taken_once()
 /// What waits is in order of its numbers, each once: a theorem.
 pub fn waiting_rises()
     ensures { λ _. ⌜ Waiting-rises ⌝ }
+{}
+
+/// A channel that follows a history follows the longer one after any call, taken or refused, and a making that is taken begins one: a theorem,
+/// for every sink and whatever the shelf means.
+pub fn calls_follow<S: Sink>()
+    ensures calls { λ _. ⌜ Calls-follow (S·Sink .step) ⌝ }
+    ensures making { λ _. ⌜ Making-follows (S·Sink .step) ⌝ }
 {}
