@@ -2,12 +2,12 @@
 use mathlib.Core.Path.{_≡_, refl, sym, ap, subst, _∙_}
 use mathlib.Core.Bool.{Bool, true, false, cond}
 use mathlib.Core.List.{List, [], _∷_, _++_}
-use Prim.Native.Nat.{ℕ, zero, suc, _+_, _-_, _<_, _≤_}
+use Prim.Native.Nat.{ℕ, zero, suc, _+_, _<_, _≤_}
 use native.Mathlib.Omega.{arith}
 use lib.ListN.{length, getD, take, drop}
-use mathlib.Core.Logic.{_⊎_, ⊎-elim}
+use mathlib.Core.Logic.{⊎-elim}
 use Rattle.std.proofs.shelf.Tests.{cond-both, both-ways, cases-bool}
-use Rattle.ladder.specs.Ladders.{flags, halved, place, past, entered, removed}
+use Rattle.ladder.specs.Ladders.{flags, place, past, entered, removed}
 use Rattle.ladder.specs.Laws.{First, Sorted, placed, inserted, without}
 use Rattle.ladder.proofs.Halves.{halved-is}
 

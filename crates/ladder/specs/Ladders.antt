@@ -65,3 +65,8 @@ pub record Found {X K : Type 0} (key : X → K) (before : K → K → Bool) (k :
 pub record Holds {X : Type 0} (rows : List X) (n : ℕ) (xs : List X) : Type 0 where
   pub within : n ≤ length rows
   pub is : take n rows ≡ xs
+
+-- the first rows of a table become xs, and how many there are then is n; or xs does not fit, and the table is as it was
+abbrev pub Settled : {X : Type 0} → List X → List X → List X → Option ℕ → Type 0
+Settled old new xs None = (length old < length xs) × (new ≡ old)
+Settled old new xs (Some n) = Holds new n xs

@@ -4,9 +4,8 @@ ghost use mathlib.Core.Bool.{Bool, true, false};
 ghost use Prim.Native.Nat.{_<_, _≤_};
 ghost use lib.ListN.{length, take, drop};
 ghost use mathlib.Core.List.{_++_};
-ghost use Rattle.ladder.specs.Ladders.{place as placeOf, held, entered, removed, Found, Holds};
+ghost use Rattle.ladder.specs.Ladders.{place as placeOf, entered, removed, Found, Holds, Settled};
 ghost use Rattle.ladder.specs.Laws.{Laws};
-ghost use Rattle.std.specs.Options.{Cases as BySome};
 ghost use Rattle.std.specs.Results.{Cases as ByOk};
 
 /// A kind of ladder: what its rows are, the key of each row, and which of two keys comes first.
@@ -99,7 +98,7 @@ fn replace<R: Rank>(rows: &mut [R::Row], used: usize, at: usize, row: R::Row) ->
 // Adds a row at a place, and moves those from there on one place up.
 fn insert<R: Rank>(rows: &mut [R::Row], used: usize, at: usize, row: R::Row) -> Option<usize>
     requires { ⌜ Found keyed before (keyed row) (take used (now rows)) false at ⌝ }
-    ensures { λ r. ⌜ BySome r ((length (now (rows .entry)) < length (entered keyed before row (take used (now (rows .entry))))) × (now (rows .exit) ≡ now (rows .entry))) (λ n. Holds (now (rows .exit)) n (entered keyed before row (take used (now (rows .entry))))) ⌝ }
+    ensures { λ r. ⌜ Settled (now (rows .entry)) (now (rows .exit)) (entered keyed before row (take used (now (rows .entry)))) r ⌝ }
 {
     let count = counted(rows, used);
     if count == rows.len() {
@@ -113,7 +112,7 @@ fn insert<R: Rank>(rows: &mut [R::Row], used: usize, at: usize, row: R::Row) -> 
 /// Puts a row in the place of the one with its key among the first `used` rows, or else adds it.
 /// Gives how many rows are used then, or `None`, with all as it was, where no place is free.
 pub fn enter<R: Rank>(rows: &mut [R::Row], used: usize, row: R::Row) -> Option<usize>
-    ensures { λ r. ⌜ BySome r ((length (now (rows .entry)) < length (entered keyed before row (take used (now (rows .entry))))) × (now (rows .exit) ≡ now (rows .entry))) (λ n. Holds (now (rows .exit)) n (entered keyed before row (take used (now (rows .entry))))) ⌝ }
+    ensures { λ r. ⌜ Settled (now (rows .entry)) (now (rows .exit)) (entered keyed before row (take used (now (rows .entry)))) r ⌝ }
 {
     match find::<R>(rows, used, R::key(&row)) {
         Ok(at) => Some(replace::<R>(rows, used, at, row)),
