@@ -6,3 +6,5 @@ pub mod Shelved
 pub mod Turns
 pub mod Verdicts
 pub mod Follows
+pub mod Keeping
+pub mod Books

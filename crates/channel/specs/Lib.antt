@@ -6,3 +6,5 @@ pub mod States
 pub mod Offers
 pub mod Calls
 pub mod Follows
+pub mod Books
+pub mod Kept

@@ -2,6 +2,8 @@
 ghost use Rattle.channel.specs.Machine.{Waiting-rises};
 ghost use Rattle.channel.specs.Promise.{Order-stands, Last-stands, Taken-once};
 ghost use Rattle.channel.specs.Follows.{Calls-follow, Making-follows};
+ghost use Rattle.channel.specs.Books.{Books-stand};
+ghost use Rattle.channel.specs.Kept.{Promise-stands};
 use sink::Sink;
 
 mod claim;
@@ -37,4 +39,14 @@ pub fn waiting_rises()
 pub fn calls_follow<S: Sink>()
     ensures calls { λ _. ⌜ Calls-follow (S·Sink .step) ⌝ }
     ensures making { λ _. ⌜ Making-follows (S·Sink .step) ⌝ }
+{}
+
+/// The whole books of every earned history, in whatever of a sink moves as a keeper: a theorem.
+pub fn books_stand<S: Sink>()
+    ensures { λ _. ⌜ Books-stand (S·Sink .step) ⌝ }
+{}
+
+/// Whatever follows a history keeps the promise, in its order, its last number and its books: a theorem.
+pub fn promise_stands<S: Sink>()
+    ensures { λ _. ⌜ Promise-stands (S·Sink .step) ⌝ }
 {}
