@@ -8,3 +8,5 @@ pub mod Verdicts
 pub mod Follows
 pub mod Keeping
 pub mod Books
+pub mod Runs
+pub mod Table

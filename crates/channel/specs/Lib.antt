@@ -8,3 +8,6 @@ pub mod Calls
 pub mod Follows
 pub mod Books
 pub mod Kept
+pub mod Runs
+pub mod Packets
+pub mod Table

@@ -4,6 +4,8 @@ ghost use Rattle.channel.specs.Promise.{Order-stands, Last-stands, Taken-once}
 ghost use Rattle.channel.specs.Follows.{Calls-follow, Making-follows};
 ghost use Rattle.channel.specs.Books.{Books-stand};
 ghost use Rattle.channel.specs.Kept.{Promise-stands};
+ghost use Rattle.channel.specs.Runs.{Runs-join, Runs-stand};
+ghost use Rattle.channel.specs.Table.{Table};
 use sink::Sink;
 
 mod claim;
@@ -49,4 +51,15 @@ pub fn books_stand<S: Sink>()
 /// Whatever follows a history keeps the promise, in its order, its last number and its books: a theorem.
 pub fn promise_stands<S: Sink>()
     ensures { λ _. ⌜ Promise-stands (S·Sink .step) ⌝ }
+{}
+
+/// One list of calls after another is the joined list, and what is made and then called keeps the promise: theorems.
+pub fn runs_stand<S: Sink>()
+    ensures join { λ _. ⌜ Runs-join (S·Sink .step) ⌝ }
+    ensures stand { λ _. ⌜ Runs-stand (S·Sink .step) ⌝ }
+{}
+
+/// Worked cases: a theorem.
+pub fn table_holds()
+    ensures { λ _. ⌜ Table ⌝ }
 {}
