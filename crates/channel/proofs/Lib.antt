@@ -10,3 +10,4 @@ pub mod Keeping
 pub mod Books
 pub mod Runs
 pub mod Table
+pub mod Sample

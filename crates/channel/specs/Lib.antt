@@ -11,3 +11,4 @@ pub mod Kept
 pub mod Runs
 pub mod Packets
 pub mod Table
+pub mod Sample

@@ -27,16 +27,21 @@ mapping-packet n = packet 28 35 n 1 (replicate 14 0)
 abbrev pub range-packet : ℕ → ℕ → List ℕ
 range-packet b e = packet 22 5 0 1 (bytes32 b ++ bytes32 e)
 
--- a full update of index 1 with one buy level; with flag 6 a refresh. The price is 100 at scale 0, of 1 order.
-abbrev pub full-packet : ℕ → ℕ → ℕ → List ℕ
-full-packet number flag volume =
-    packet 56 230 number flag ((0 ∷ 0 ∷ 0 ∷ 1 ∷ []) ++ (replicate 26 0 ++ (bytes32 100 ++ (bytes32 volume ++ (0 ∷ 1 ∷ 66 ∷ 0 ∷ [])))))
+-- the point of a full update: a buy level with the numerator 100
+abbrev pub full-point : ℕ → ℕ → List ℕ
+full-point volume orders = bytes32 100 ++ (bytes32 volume ++ (0 ∷ orders ∷ 66 ∷ 0 ∷ []))
 
--- a delta of index 1 with one level, an order of it: numerator 100 or another, side B or S
+-- a full update of index 1 at scale 0, with one point; with flag 6 it is a refresh
+abbrev pub full-packet : ℕ → ℕ → ℕ → ℕ → List ℕ
+full-packet number flag volume orders = packet 56 230 number flag ((0 ∷ 0 ∷ 0 ∷ 1 ∷ []) ++ (replicate 26 0 ++ full-point volume orders))
+
+-- the point of a delta: a level of two orders, for a new order, its side B or S
+abbrev pub delta-point : ℕ → ℕ → ℕ → List ℕ
+delta-point numerator volume side = bytes32 numerator ++ (bytes32 volume ++ (bytes32 0 ++ ((0 ∷ 2 ∷ side ∷ 79 ∷ []) ++ replicate 12 0)))
+
+-- a delta of index 1 at scale 0, with one point
 abbrev pub delta-packet : ℕ → ℕ → ℕ → ℕ → List ℕ
-delta-packet number numerator volume side =
-    packet 60 231 number 1
-    ((0 ∷ 0 ∷ 0 ∷ 1 ∷ []) ++ (replicate 14 0 ++ (bytes32 numerator ++ (bytes32 volume ++ (bytes32 0 ++ ((0 ∷ 2 ∷ side ∷ 79 ∷ []) ++ replicate 12 0))))))
+delta-packet number numerator volume side = packet 60 231 number 1 ((0 ∷ 0 ∷ 0 ∷ 1 ∷ []) ++ (replicate 14 0 ++ delta-point numerator volume side))
 
 -- a scratch buffer of 1,500 bytes
 abbrev pub scratch : List ℕ

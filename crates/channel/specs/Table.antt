@@ -29,7 +29,7 @@ touched-keeper n = record { depth = 1; mark = 2; books = emptied false n ∷ [] 
 
 -- the keeper of a channel with last 7 after a refresh as of 5
 abbrev pub refreshed : ℕ → Kept
-refreshed n = offered-all keeper-step (full-packet 5 6 9 ∷ []) (opened-at 7 empty-store (touched-keeper n)) .sink
+refreshed n = offered-all keeper-step (full-packet 5 6 9 1 ∷ []) (opened-at 7 empty-store (touched-keeper n)) .sink
 
 pub record Table : Type 0 where
   -- a chain: what lengths cost in units

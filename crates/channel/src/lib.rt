@@ -5,6 +5,7 @@ ghost use Rattle.channel.specs.Follows.{Calls-follow, Making-follows};
 ghost use Rattle.channel.specs.Books.{Books-stand};
 ghost use Rattle.channel.specs.Kept.{Promise-stands};
 ghost use Rattle.channel.specs.Runs.{Runs-join, Runs-stand};
+ghost use Rattle.channel.specs.Sample.{SampleHolds};
 ghost use Rattle.channel.specs.Table.{Table};
 use sink::Sink;
 
@@ -62,4 +63,9 @@ pub fn runs_stand<S: Sink>()
 /// Worked cases: a theorem.
 pub fn table_holds()
     ensures { λ _. ⌜ Table ⌝ }
+{}
+
+/// The promise is not empty: a run of real packets that earns it, with a whole book at its end: a theorem.
+pub fn sample_holds()
+    ensures { λ _. ⌜ SampleHolds ⌝ }
 {}
