@@ -1,0 +1,13 @@
+pub mod Maps
+pub mod Numbers
+pub mod Order
+pub mod Rises
+pub mod Shelved
+pub mod Turns
+pub mod Verdicts
+pub mod Follows
+pub mod Keeping
+pub mod Books
+pub mod Runs
+pub mod Table
+pub mod Sample

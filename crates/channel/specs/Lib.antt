@@ -1,0 +1,14 @@
+pub mod Faults
+pub mod Maps
+pub mod Machine
+pub mod Promise
+pub mod States
+pub mod Offers
+pub mod Calls
+pub mod Follows
+pub mod Books
+pub mod Kept
+pub mod Runs
+pub mod Packets
+pub mod Table
+pub mod Sample

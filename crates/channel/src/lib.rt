@@ -1,0 +1,71 @@
+//! A channel: the packets of one stream, in order, each number once. Here is what its calls come to, and what is promised of any run of them.
+ghost use Rattle.channel.specs.Machine.{Waiting-rises};
+ghost use Rattle.channel.specs.Promise.{Order-stands, Last-stands, Taken-once};
+ghost use Rattle.channel.specs.Follows.{Calls-follow, Making-follows};
+ghost use Rattle.channel.specs.Books.{Books-stand};
+ghost use Rattle.channel.specs.Kept.{Promise-stands};
+ghost use Rattle.channel.specs.Runs.{Runs-join, Runs-stand};
+ghost use Rattle.channel.specs.Sample.{SampleHolds};
+ghost use Rattle.channel.specs.Table.{Table};
+use sink::Sink;
+
+mod claim;
+mod fault;
+
+pub use claim::Claim;
+pub use claim::Taken;
+pub use fault::ChannelFault;
+pub use fault::OfferFault;
+
+/// The order of every earned history, number by number: a theorem.
+pub fn order_stands()
+    ensures { λ _. ⌜ Order-stands ⌝ }
+{}
+
+/// The last number of every earned history: a theorem.
+pub fn last_stands()
+    ensures { λ _. ⌜ Last-stands ⌝ }
+{}
+
+/// Since a restart no number is taken as data twice: a theorem.
+pub fn taken_once()
+    ensures { λ _. ⌜ Taken-once ⌝ }
+{}
+
+/// What waits is in order of its numbers, each once: a theorem.
+pub fn waiting_rises()
+    ensures { λ _. ⌜ Waiting-rises ⌝ }
+{}
+
+/// A channel that follows a history follows the longer one after any call, taken or refused, and a making that is taken begins one: a theorem,
+/// for every sink and whatever the shelf means.
+pub fn calls_follow<S: Sink>()
+    ensures calls { λ _. ⌜ Calls-follow (S·Sink .step) ⌝ }
+    ensures making { λ _. ⌜ Making-follows (S·Sink .step) ⌝ }
+{}
+
+/// The whole books of every earned history, in whatever of a sink moves as a keeper: a theorem.
+pub fn books_stand<S: Sink>()
+    ensures { λ _. ⌜ Books-stand (S·Sink .step) ⌝ }
+{}
+
+/// Whatever follows a history keeps the promise, in its order, its last number and its books: a theorem.
+pub fn promise_stands<S: Sink>()
+    ensures { λ _. ⌜ Promise-stands (S·Sink .step) ⌝ }
+{}
+
+/// One list of calls after another is the joined list, and what is made and then called keeps the promise: theorems.
+pub fn runs_stand<S: Sink>()
+    ensures join { λ _. ⌜ Runs-join (S·Sink .step) ⌝ }
+    ensures stand { λ _. ⌜ Runs-stand (S·Sink .step) ⌝ }
+{}
+
+/// Worked cases: a theorem.
+pub fn table_holds()
+    ensures { λ _. ⌜ Table ⌝ }
+{}
+
+/// The promise is not empty: a run of real packets that earns it, with a whole book at its end: a theorem.
+pub fn sample_holds()
+    ensures { λ _. ⌜ SampleHolds ⌝ }
+{}
