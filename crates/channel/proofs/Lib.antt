@@ -11,3 +11,5 @@ pub mod Books
 pub mod Runs
 pub mod Table
 pub mod Sample
+pub mod Laws
+pub mod Flows

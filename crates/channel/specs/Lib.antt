@@ -12,3 +12,4 @@ pub mod Runs
 pub mod Packets
 pub mod Table
 pub mod Sample
+pub mod Laws
