@@ -13,3 +13,4 @@ pub mod Table
 pub mod Sample
 pub mod Laws
 pub mod Flows
+pub mod Cases

@@ -5,6 +5,7 @@ ghost use Rattle.channel.specs.Follows.{Calls-follow, Making-follows};
 ghost use Rattle.channel.specs.Books.{Books-stand};
 ghost use Rattle.channel.specs.Kept.{Promise-stands};
 ghost use Rattle.channel.specs.Runs.{Runs-join, Runs-stand};
+ghost use Rattle.channel.specs.Cases.{Cases};
 ghost use Rattle.channel.specs.Laws.{Counts, Sources-stay, Claims-ask};
 ghost use Rattle.channel.specs.Sample.{SampleHolds};
 ghost use Rattle.channel.specs.Table.{Table};
@@ -77,4 +78,9 @@ pub fn table_holds()
 /// The promise is not empty: a run of real packets that earns it, with a whole book at its end: a theorem.
 pub fn sample_holds()
     ensures { λ _. ⌜ SampleHolds ⌝ }
+{}
+
+/// Worked cases of each refusal, in their order, and of the buffers: a theorem.
+pub fn cases_hold()
+    ensures { λ _. ⌜ Cases ⌝ }
 {}
