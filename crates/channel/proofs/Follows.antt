@@ -1,27 +1,26 @@
 -- A channel that follows a history goes on following it.
 use mathlib.Core.Path.{_≡_, refl, sym, ap, subst, _∙_}
 use mathlib.Core.List.{List, [], _∷_}
-use mathlib.Core.Bool.{Bool, true, false, cond}
-use Prim.Native.Nat.{ℕ, _+_, _-_, _≤_, _<_}
-use native.Mathlib.Omega.{arith}
+use mathlib.Core.Bool.{true, false}
+use Prim.Native.Nat.{ℕ, _+_, _-_, _≤_}
 use Rattle.std.specs.Options.{isSome}
 use Rattle.std.specs.Results.{isOk}
 use Rattle.std.specs.declared.option.Option.{Option}
 use Rattle.std.specs.declared.option.Option.the-variants.{Some, None}
 use Rattle.std.specs.declared.result.Result.{Result}
 use Rattle.std.specs.declared.result.Result.the-variants.{Ok, Err}
-use Rattle.wire.specs.Reading.{Msg, Pkt}
+use Rattle.wire.specs.Reading.{Pkt}
 use Rattle.sink.specs.Events.{Event}
 use Rattle.channel.specs.declared.fault.ChannelFault.{ChannelFault}
 use Rattle.channel.specs.declared.fault.OfferFault.{OfferFault}
 use Rattle.channel.specs.declared.claim.Claim.{Claim}
-use Rattle.channel.specs.Maps.{Map, has}
-use Rattle.channel.specs.Machine.{Call, made, offered, claimed, settled, restarted, History, Content, nothing, brought, content, read-content, Deed, begins, took, deed, does, machine}
+use Rattle.channel.specs.Machine.{Call, made, offered, claimed, settled, restarted, History, nothing, brought, content, read-content, begins, took, deed, does, machine}
 use Rattle.channel.specs.Promise.{Allowed, Making, Earned}
-use Rattle.channel.specs.States.{Opened, State, last-of, at-last, either, on-ok, answer, back}
+use Rattle.channel.specs.States.{Opened, State, last-of, on-ok, answer, back}
 use Rattle.channel.specs.Offers.{Flow, offer-verdict, grown, flowed, offer-flow}
 use Rattle.channel.specs.Calls.{make-answer, make-after, begun-at, restart-verdict, claim-verdict, reclaimed, settle-verdict, missing-of}
 use Rattle.channel.specs.Follows.{led, Waits, Follows, Ask, make, offer, claim, settle, restart, noted, taken, after}
+use Rattle.channel.proofs.Plain.{never, some-same}
 use Rattle.channel.proofs.Order.{stands}
 use Rattle.channel.proofs.Rises.{waiting-rises}
 use Rattle.channel.proofs.Turns.{Like, like-takes}
@@ -33,8 +32,8 @@ earned-more c [] nm e a = absurd e
 earned-more c (d ∷ h) nm e a = (nm, a, e)
 
 closed : (x : Option Opened) (n : ℕ) → isSome x ≡ false → last-of x ≡ Some n → ⊥
-closed None n a b = let z : _≡_ {A = ℕ} 0 1 = cc in omega arith
-closed (Some o) n a b = let z : _≡_ {A = ℕ} 0 1 = cc in omega arith
+closed None n a b = never (cc)
+closed (Some o) n a b = never (cc)
 
 module _ {M : Type 0} (step : Event → M → M) (before : M) where
   -- a call that did nothing
@@ -81,9 +80,6 @@ module _ {M : Type 0} (step : Event → M → M) (before : M) where
         waits = there .waits;
         earned = earned-more (offered p true) h (λ x. x) (f .earned) (subst (λ x. Allowed (took x) (s .last) (s .waiting)) (sym e) a);
       }
-    where
-      some-same : (x y : ℕ) → _≡_ {A = Option ℕ} (Some x) (Some y) → x ≡ y
-      some-same x y q = cc
 
   offer-follows : (h : History) (c : State M) (p b : List ℕ) → Follows step before h c
       → Follows step before (noted (offer p b) (taken step (offer p b) c) ∷ h) (after step (offer p b) c)
@@ -152,4 +148,4 @@ making-follows step c number source first t = go (make-answer c source first) re
         → Follows step (c .sink) (made first true ∷ [])
         (on-ok r (λ u. begun-at step first (record { number = number; source = source; last = 0; out = None; claims = 0 }) c) c)
     go (Ok u) e t = record { last = refl; sink = refl; waits = tt; earned = (tt, make-found c source first u e .number) }
-    go (Err x) e t = absurd (let z : _≡_ {A = ℕ} 0 1 = cc in omega arith)
+    go (Err x) e t = absurd (never (cc))

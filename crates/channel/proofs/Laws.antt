@@ -1,36 +1,35 @@
 -- Counts, claims and source ids.
 use mathlib.Core.Path.{_≡_, refl, sym, ap, subst, _∙_}
-use mathlib.Core.List.{List, [], _∷_, _++_}
-use mathlib.Core.Bool.{Bool, true, false, cond, _&&_}
+use mathlib.Core.List.{List, _∷_}
+use mathlib.Core.Bool.{true, _&&_}
 use mathlib.Core.Logic.{⊎-elim}
 use Prim.Native.Nat.{ℕ, zero, suc, _+_, _-_, _≤_, _<_, min}
 use native.Mathlib.Omega.{arith}
 use lib.Dec.{leb}
-use lib.ListN.{length, drop}
+use lib.ListN.{length}
 use Rattle.std.proofs.shelf.Tests.{cond-both, cond-true, and-from, le-leb, both-ways, cases-bool}
-use Rattle.std.specs.Options.{isSome, Cases}
-use Rattle.std.specs.Results.{isOk}
+use Rattle.std.specs.Options.{Cases}
 use Rattle.std.specs.declared.option.Option.{Option}
 use Rattle.std.specs.declared.option.Option.the-variants.{Some, None}
 use Rattle.std.specs.declared.result.Result.{Result}
 use Rattle.std.specs.declared.result.Result.the-variants.{Ok, Err}
 use Rattle.wire.specs.Reading.{Msg, Pkt}
 use Rattle.wire.specs.Request.{source-right, request, request-after}
-use Rattle.shelf.specs.Store.{Packets, has, above, Lawful}
+use Rattle.shelf.specs.Store.{has, Lawful}
 use Rattle.shelf.proofs.Kept.{held-is-a-map}
 use Rattle.sink.specs.Events.{Event}
 use Rattle.channel.specs.declared.fault.ChannelFault.{ChannelFault}
 use Rattle.channel.specs.declared.fault.OfferFault.{OfferFault}
 use Rattle.channel.specs.declared.claim.Claim.{Claim}
 use Rattle.channel.specs.declared.claim.Taken.{Taken}
-use Rattle.channel.specs.Machine.{History, offered, Content, carries, declares, renews, nothing, content, took, Standing, turn, pass, passes, drain, joins, does, machine}
-use Rattle.channel.specs.Machine as told
+use Rattle.channel.specs.Machine.{offered, Content, carries, declares, renews, nothing, content, took, Standing, turn, pass, passes, drain, joins, does, machine}
 use Rattle.channel.specs.Maps as waiting
-use Rattle.channel.specs.States.{Opened, State, last-of, at-last, either, on-ok, answer}
-use Rattle.channel.specs.Offers.{Flow, offer-verdict, offer-flow, grown, flowed, offer-answer, offer-after}
-use Rattle.channel.specs.Calls.{make-answer, begun-at, restart-verdict, claim-of, claim-verdict, claim-answer, claim-buffer, reclaimed, settle-verdict}
-use Rattle.channel.specs.Follows.{Follows, Ask, make, offer, claim, settle, restart, after}
+use Rattle.channel.specs.States.{Opened, State, last-of, on-ok, answer}
+use Rattle.channel.specs.Offers.{offer-verdict, offer-flow, grown, flowed}
+use Rattle.channel.specs.Calls.{make-answer, begun-at, restart-verdict, claim-verdict, reclaimed, settle-verdict}
+use Rattle.channel.specs.Follows.{make, offer, claim, settle, restart}
 use Rattle.channel.specs.Laws.{turns, SourceRight, Asks, Counts, Sources-stay, Claims-ask}
+use Rattle.channel.proofs.Plain.{never, some-same}
 use Rattle.channel.proofs.Follows.{offer-took}
 use Rattle.channel.proofs.Verdicts.{offer-passed, restart-found, claim-found, settle-opened, make-found}
 
@@ -79,12 +78,6 @@ turned-takes (declares b e) s =
 turned-takes (renews n m) s = record { grows = omega arith; counts = refl }
 turned-takes nothing s = turned-none s
 
-some-same : (x y : ℕ) → _≡_ {A = Option ℕ} (Some x) (Some y) → x ≡ y
-some-same x y q = cc
-
-opened-same : (x y : Opened) → _≡_ {A = Option Opened} (Some x) (Some y) → x ≡ y
-opened-same x y q = cc
-
 module _ {M : Type 0} (step : Event → M → M) where
   pub counts : Counts step
   counts before h c p b t f ok = go (offer-verdict c p b) refl ok
@@ -103,18 +96,18 @@ module _ {M : Type 0} (step : Event → M → M) where
           let x = r .grows in
           let y = r .counts in
           (ap (λ (x : Taken). Some (x .last)) same, omega arith)
-      go (Err x) e ok = absurd (let z : _≡_ {A = ℕ} 0 1 = cc in omega arith)
+      go (Err x) e ok = absurd (never (cc))
 
   -- a channel with the source id of an open one
   kept-source : (c : State M) (o u : Opened) → c .opened ≡ Some o → u .source ≡ o .source → SourceRight c → (x : Opened) → _≡_ {A = Option Opened} (Some u) (Some x) → source-right (x .source) ≡ true
-  kept-source c o u is same right x e = ap (λ (y : Opened). source-right (y .source)) (sym (opened-same u x e)) ∙ ap source-right same ∙ right o is
+  kept-source c o u is same right x e = ap (λ (y : Opened). source-right (y .source)) (sym (some-same u x e)) ∙ ap source-right same ∙ right o is
 
   pub sources-stay : Sources-stay step
   sources-stay c (make number source first) right = go (make-answer c source first) refl
     where
       go : (r : Result (Unit {0}) ChannelFault) → make-answer c source first ≡ r
           → SourceRight (on-ok r (λ u. begun-at step first (record { number = number; source = source; last = 0; out = None; claims = 0 }) c) c)
-      go (Ok u) e = λ x is. ap (λ (y : Opened). source-right (y .source)) (sym (opened-same _ x is)) ∙ make-found c source first u e .named
+      go (Ok u) e = λ x is. ap (λ (y : Opened). source-right (y .source)) (sym (some-same _ x is)) ∙ make-found c source first u e .named
       go (Err x) e = right
   sources-stay c (offer p b) right = go (offer-verdict c p b) refl
     where
@@ -169,6 +162,6 @@ module _ {M : Type 0} (step : Event → M → M) where
       go : (r : Result (Opened × Claim) ChannelFault) → claim-verdict c b ≡ r → answer r (λ v. v .1) ≡ Ok k → Asks c o time b k
       go (Ok v) e ok =
           let same : v .1 ≡ k = cc in
-          let here : v .0 ≡ o = opened-same (v .0) o (sym (claim-found c b v e .opened) ∙ is) in
+          let here : v .0 ≡ o = some-same (v .0) o (sym (claim-found c b v e .opened) ∙ is) in
           subst (λ x. Asks c o time b x) same (subst (λ x. Asks c x time b (v .1)) here (found-asks c time b v lawful right e))
-      go (Err x) e ok = absurd (let z : _≡_ {A = ℕ} 0 1 = cc in omega arith)
+      go (Err x) e ok = absurd (never (cc))

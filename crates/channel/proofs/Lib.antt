@@ -1,3 +1,4 @@
+pub mod Plain
 pub mod Maps
 pub mod Numbers
 pub mod Order

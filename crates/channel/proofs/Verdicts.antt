@@ -1,8 +1,8 @@
 -- What a verdict tells.
 use mathlib.Core.Path.{_≡_, refl, sym, ap, subst, _∙_}
-use mathlib.Core.List.{List, [], _∷_}
+use mathlib.Core.List.{List}
 use mathlib.Core.Bool.{Bool, true, false, cond, _&&_, _||_}
-use Prim.Native.Nat.{ℕ, _+_, _-_, _≤_, _<_}
+use Prim.Native.Nat.{ℕ, _+_, _-_, _≤_}
 use native.Mathlib.Omega.{arith}
 use lib.Dec.{eqb, leb, ltb}
 use lib.ListN.{length}
@@ -16,23 +16,21 @@ use Rattle.wire.specs.declared.fault.ReadFault.{ReadFault}
 use Rattle.wire.specs.declared.message.Class.the-variants as class
 use Rattle.wire.specs.Reading.{Msg, Pkt, reset, unavailable, mapping, full, delta, reading, message-class}
 use Rattle.wire.specs.Request.{source-right}
-use Rattle.shelf.specs.Store.{Store, put-answer}
+use Rattle.shelf.specs.Store.{Store}
 use Rattle.shelf.specs.Store as on-shelf
 use Rattle.channel.specs.declared.fault.OfferFault.{OfferFault}
 use Rattle.channel.specs.declared.fault.OfferFault.the-variants.{Channel}
-use Rattle.channel.specs.declared.fault.ChannelFault.the-variants.{Short, Parts, Ahead, Behind, Far, Wide, Owed, Whole, Spent, Other, Zero, Source, Phase}
+use Rattle.channel.specs.declared.fault.ChannelFault.the-variants.{Short, Parts, Ahead, Behind, Owed, Whole, Spent, Other, Zero, Source, Phase}
 use Rattle.channel.specs.declared.claim.Claim.{Claim}
 use Rattle.channel.specs.Maps.{Map}
 use Rattle.channel.specs.Machine.{carries, declares, renews, range, took, brings, brought}
 use Rattle.channel.specs.Promise.{Allowed}
 use Rattle.channel.specs.States.{Opened, State, either}
-use Rattle.channel.specs.Offers.{shelf-fault, against-data, against-range, against-refresh, against-message, against, read-then, offer-verdict}
+use Rattle.channel.specs.Offers.{against-data, against-range, against-refresh, against-message, against, read-then, offer-verdict}
 use Rattle.channel.specs.Calls.{make-answer, restart-verdict, claim-of, claim-verdict, same-claim, settle-verdict}
 use Rattle.channel.specs.Follows.{Waits}
+use Rattle.channel.proofs.Plain.{never, ok-same}
 use Rattle.channel.proofs.Shelved.{waits-has}
-
-never : _≡_ {A = ℕ} 0 1 → ⊥
-never z = omega arith
 
 -- what was found where a call is taken
 pub either-ok : {A B E : Type 0} (x : Option A) (e : E) (k : A → Result B E) (y : B) → either x (Err e) k ≡ Ok y → (a : A) × ((x ≡ Some a) × (k a ≡ Ok y))
@@ -114,9 +112,6 @@ module _ (l : ℕ) (s : Store) (p : List ℕ) (w : Map Msg) (waits : Waits (s .h
 
   pub packet-allowed : (q : Pkt) → against l s p q ≡ None → Allowed (took (brought q)) l w
   packet-allowed q e = message-allowed (q .message) q refl e
-
-ok-same : {A E : Type 0} (x y : A) → _≡_ {A = Result A E} (Ok x) (Ok y) → x ≡ y
-ok-same x y e = cc
 
 -- what a restart that is taken found
 pub record Restarted {M : Type 0} (c : State M) (n : ℕ) (o : Opened) : Type 0 where

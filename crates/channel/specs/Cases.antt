@@ -1,7 +1,6 @@
 -- Worked cases of each refusal and of the order of the refusals, of the buffers, and of packets that no call puts on a shelf.
 use mathlib.Core.Path.{_≡_}
 use mathlib.Core.List.{List, [], _∷_, _++_}
-use mathlib.Core.Bool.{true, false}
 use Prim.Native.Nat.{ℕ}
 use lib.ListN.{drop, replicate}
 use Rattle.std.specs.declared.option.Option.{Option}
@@ -12,10 +11,9 @@ use Rattle.wire.specs.declared.fault.ReadFault.the-variants as reader
 use Rattle.wire.specs.Reading.{mapping}
 use Rattle.wire.specs.Request.{request}
 use Rattle.shelf.specs.declared.PutFault.the-variants as shelf
-use Rattle.shelf.specs.Store.{Packets, Store, with-held}
+use Rattle.shelf.specs.Store.{Packets, with-held}
 use Rattle.slot_shelf.specs.Slots.{empty-store}
 use Rattle.sink.specs.Events.{Event, data-of, loss-of}
-use Rattle.channel.specs.declared.fault.ChannelFault.{ChannelFault}
 use Rattle.channel.specs.declared.fault.ChannelFault.the-variants.{Short, Reset, Parts, Ahead, Behind, Far, Wide, Owed, Whole, Spent, Other, Zero, Source, Phase}
 use Rattle.channel.specs.declared.fault.OfferFault.{OfferFault}
 use Rattle.channel.specs.declared.fault.OfferFault.the-variants.{Reader, Shelf, Channel}

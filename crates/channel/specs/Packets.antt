@@ -6,7 +6,7 @@ use Rattle.std.specs.declared.option.Option.the-variants.{Some, None}
 use Rattle.std.specs.declared.result.Result.{Result}
 use Rattle.std.specs.declared.result.Result.the-variants.{Ok, Err}
 use Rattle.wire.specs.Request.{bytes32}
-use Rattle.shelf.specs.Store.{Packets, Store, with-held}
+use Rattle.shelf.specs.Store.{Packets, Store}
 use Rattle.sink.specs.Events.{Event}
 use Rattle.channel.specs.declared.fault.OfferFault.{OfferFault}
 use Rattle.channel.specs.declared.claim.Taken.{Taken}
