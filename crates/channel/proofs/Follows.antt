@@ -1,49 +1,39 @@
 -- A channel that follows a history goes on following it.
 use mathlib.Core.Path.{_≡_, refl, sym, ap, subst, _∙_}
 use mathlib.Core.List.{List, [], _∷_}
-use mathlib.Core.Bool.{Bool, true, false, cond}
-use Prim.Native.Nat.{ℕ, _+_, _-_, _≤_, _<_}
-use native.Mathlib.Omega.{arith}
-use lib.Dec.{eqb, ltb, leb}
-use lib.ListN.{length}
-use Rattle.std.proofs.shelf.Tests.{eqb-false, cond-both}
+use mathlib.Core.Bool.{true, false}
+use Prim.Native.Nat.{ℕ, _+_, _-_, _≤_}
 use Rattle.std.specs.Options.{isSome}
 use Rattle.std.specs.Results.{isOk}
 use Rattle.std.specs.declared.option.Option.{Option}
 use Rattle.std.specs.declared.option.Option.the-variants.{Some, None}
 use Rattle.std.specs.declared.result.Result.{Result}
 use Rattle.std.specs.declared.result.Result.the-variants.{Ok, Err}
-use Rattle.wire.specs.Reading.{Msg, Pkt}
-use Rattle.wire.specs.Request.{source-right}
-use Rattle.shelf.specs.Store as on-shelf
+use Rattle.wire.specs.Reading.{Pkt}
 use Rattle.sink.specs.Events.{Event}
 use Rattle.channel.specs.declared.fault.ChannelFault.{ChannelFault}
-use Rattle.channel.specs.declared.fault.ChannelFault.the-variants.{Short, Owed, Whole, Spent, Other, Zero, Source, Phase}
 use Rattle.channel.specs.declared.fault.OfferFault.{OfferFault}
 use Rattle.channel.specs.declared.claim.Claim.{Claim}
-use Rattle.channel.specs.Maps.{Map, has}
-use Rattle.channel.specs.Machine.{Call, made, offered, claimed, settled, restarted, History, Content, nothing, brought, content, read-content, Deed, begins, took, deed, does, machine}
+use Rattle.channel.specs.Machine.{Call, made, offered, claimed, settled, restarted, History, nothing, brought, content, read-content, begins, took, deed, does, machine}
 use Rattle.channel.specs.Promise.{Allowed, Making, Earned}
-use Rattle.channel.specs.States.{Opened, State, last-of, at-last, either, on-ok, answer, back}
+use Rattle.channel.specs.States.{Opened, State, last-of, on-ok, answer, back}
 use Rattle.channel.specs.Offers.{Flow, offer-verdict, grown, flowed, offer-flow}
-use Rattle.channel.specs.Calls.{make-answer, make-after, begun-at, restart-verdict, claim-verdict, reclaimed, same-claim, settle-verdict, missing-of}
+use Rattle.channel.specs.Calls.{make-answer, make-after, begun-at, restart-verdict, claim-verdict, reclaimed, settle-verdict, missing-of}
 use Rattle.channel.specs.Follows.{led, Waits, Follows, Ask, make, offer, claim, settle, restart, noted, taken, after}
+use Rattle.channel.proofs.Plain.{never, some-same}
 use Rattle.channel.proofs.Order.{stands}
 use Rattle.channel.proofs.Rises.{waiting-rises}
 use Rattle.channel.proofs.Turns.{Like, like-takes}
-use Rattle.channel.proofs.Verdicts.{either-ok, cond-ok, ok-cond, Passed, offer-passed, packet-allowed}
+use Rattle.channel.proofs.Verdicts.{Passed, offer-passed, packet-allowed, restart-found, claim-found, settle-opened, make-found}
 
 -- the rules were kept once more
 earned-more : (c : Call) (h : History) → (Making c → ⊥) → Earned h → Allowed (deed c) (machine h .last) (machine h .waiting) → Earned (c ∷ h)
 earned-more c [] nm e a = absurd e
 earned-more c (d ∷ h) nm e a = (nm, a, e)
 
-same-first : (u v : Opened × Claim) → _≡_ {A = Result (Opened × Claim) ChannelFault} (Ok u) (Ok v) → v .0 ≡ u .0
-same-first u v e = cc
-
 closed : (x : Option Opened) (n : ℕ) → isSome x ≡ false → last-of x ≡ Some n → ⊥
-closed None n a b = let z : _≡_ {A = ℕ} 0 1 = cc in omega arith
-closed (Some o) n a b = let z : _≡_ {A = ℕ} 0 1 = cc in omega arith
+closed None n a b = never (cc)
+closed (Some o) n a b = never (cc)
 
 module _ {M : Type 0} (step : Event → M → M) (before : M) where
   -- a call that did nothing
@@ -71,7 +61,7 @@ module _ {M : Type 0} (step : Event → M → M) (before : M) where
       }
 
   -- an offer that is taken
-  offer-took : (h : History) (c : State M) (p b : List ℕ) (v : Opened × Pkt) → Passed c p v → Follows step before h c
+  pub offer-took : (h : History) (c : State M) (p b : List ℕ) (v : Opened × Pkt) → Passed c p v → Follows step before h c
       → Follows step before (offered p true ∷ h) (flowed c (v .0) (offer-flow step c p b v))
   offer-took h c p b v ok f =
       let s = machine h in
@@ -90,9 +80,6 @@ module _ {M : Type 0} (step : Event → M → M) (before : M) where
         waits = there .waits;
         earned = earned-more (offered p true) h (λ x. x) (f .earned) (subst (λ x. Allowed (took x) (s .last) (s .waiting)) (sym e) a);
       }
-    where
-      some-same : (x y : ℕ) → _≡_ {A = Option ℕ} (Some x) (Some y) → x ≡ y
-      some-same x y q = cc
 
   offer-follows : (h : History) (c : State M) (p b : List ℕ) → Follows step before h c
       → Follows step before (noted (offer p b) (taken step (offer p b) c) ∷ h) (after step (offer p b) c)
@@ -110,12 +97,7 @@ module _ {M : Type 0} (step : Event → M → M) (before : M) where
     where
       go : (r : Result Opened ChannelFault) → restart-verdict c n ≡ r
           → Follows step before (restarted n (isOk (answer {B = Unit {0}} r (λ o. tt))) ∷ h) (on-ok r (λ o. begun-at step n o c) c)
-      go (Ok o) e =
-          let x = either-ok (c .opened) Phase _ o e in
-          let y = cond-ok (isSome (x .0 .out)) Owed _ o (x .1 .1) in
-          let z = cond-ok (eqb n 0) Zero (Ok (x .0)) o (y .1) in
-          let ne = eqb-false n 0 (z .0) in
-          anew h c (restarted n true) n o (λ x. x) refl (omega arith) f
+      go (Ok o) e = anew h c (restarted n true) n o (λ x. x) refl (restart-found c n o e .number) f
       go (Err x) e = still h c c (restarted n false) (λ x. x) refl refl refl refl f
 
   claim-follows : (h : History) (c : State M) (time : ℕ) (b : List ℕ) → Follows step before h c
@@ -125,14 +107,8 @@ module _ {M : Type 0} (step : Event → M → M) (before : M) where
       go : (r : Result (Opened × Claim) ChannelFault) → claim-verdict c b ≡ r
           → Follows step before (claimed (isOk (answer r (λ v. v .1))) ∷ h) (on-ok r (λ v. reclaimed c (Some (v .1)) (v .0 .claims + 1) (v .0)) c)
       go (Ok v) e =
-          let x = either-ok (c .opened) Phase _ v e in
-          let y = cond-ok (ltb (length b) 44) Short _ v (x .1 .1) in
-          let z = cond-ok (isSome (x .0 .out)) Owed _ v (y .1) in
-          let w = cond-ok (on-shelf.has (c .shelf .held) (x .0 .last + 1)) Whole _ v (z .1) in
-          let u = either-ok (on-shelf.above (c .shelf .held) (x .0 .last)) Whole _ v (w .1) in
-          let t = cond-ok (leb 500 (x .0 .claims)) Spent _ v (u .1 .1) in
           still h c (reclaimed c (Some (v .1)) (v .0 .claims + 1) (v .0)) (claimed true) (λ x. x) refl
-          (ap (λ (o : Opened). Some (o .last)) (same-first _ v (t .1)) ∙ sym (ap last-of (x .1 .0))) refl refl f
+          (sym (ap last-of (claim-found c b v e .opened))) refl refl f
       go (Err x) e = still h c c (claimed false) (λ x. x) refl refl refl refl f
 
   settle-follows : (h : History) (c : State M) (k : Claim) → Follows step before h c
@@ -142,11 +118,7 @@ module _ {M : Type 0} (step : Event → M → M) (before : M) where
       go : (r : Result (Opened × Claim) ChannelFault) → settle-verdict c k ≡ r
           → Follows step before (settled (isOk (back k (answer r (λ v. missing-of v (c .shelf .held))))) ∷ h) (on-ok r (λ v. reclaimed c None (v .0 .claims) (v .0)) c)
       go (Ok v) e =
-          let x = either-ok (c .opened) Phase _ v e in
-          let y = either-ok (x .0 .out) Other _ v (x .1 .1) in
-          let z = ok-cond (same-claim k (y .0)) Other _ v (y .1 .1) in
-          still h c (reclaimed c None (v .0 .claims) (v .0)) (settled true) (λ x. x) refl
-          (ap (λ (o : Opened). Some (o .last)) (same-first _ v (z .1)) ∙ sym (ap last-of (x .1 .0))) refl refl f
+          still h c (reclaimed c None (v .0 .claims) (v .0)) (settled true) (λ x. x) refl (sym (ap last-of (settle-opened c k v e))) refl refl f
       go (Err x) e = still h c c (settled false) (λ x. x) refl refl refl refl f
 
   -- a making of a channel that is open is refused
@@ -157,7 +129,7 @@ module _ {M : Type 0} (step : Event → M → M) (before : M) where
       go : (r : Result (Unit {0}) ChannelFault) → make-answer c source first ≡ r
           → Follows step before (made first (isOk r) ∷ h)
           (on-ok r (λ u. begun-at step first (record { number = number; source = source; last = 0; out = None; claims = 0 }) c) c)
-      go (Ok u) e = absurd (closed (c .opened) (machine h .last) (cond-ok (isSome (c .opened)) Phase _ u e .0) (f .last))
+      go (Ok u) e = absurd (closed (c .opened) (machine h .last) (make-found c source first u e .closed) (f .last))
       go (Err x) e = still h c c (made first false) (λ x. x) refl refl refl refl f
 
   pub calls-follow : (h : History) (c : State M) (a : Ask) → Follows step before h c → Follows step before (noted a (taken step a c) ∷ h) (after step a c)
@@ -175,9 +147,5 @@ making-follows step c number source first t = go (make-answer c source first) re
     go : (r : Result (Unit {0}) ChannelFault) → make-answer c source first ≡ r → isOk r ≡ true
         → Follows step (c .sink) (made first true ∷ [])
         (on-ok r (λ u. begun-at step first (record { number = number; source = source; last = 0; out = None; claims = 0 }) c) c)
-    go (Ok u) e t =
-        let x = cond-ok (isSome (c .opened)) Phase _ u e in
-        let y = cond-ok (eqb first 0) Zero _ u (x .1) in
-        let ne = eqb-false first 0 (y .0) in
-        record { last = refl; sink = refl; waits = tt; earned = (tt, omega arith) }
-    go (Err x) e t = absurd (let z : _≡_ {A = ℕ} 0 1 = cc in omega arith)
+    go (Ok u) e t = record { last = refl; sink = refl; waits = tt; earned = (tt, make-found c source first u e .number) }
+    go (Err x) e t = absurd (never (cc))

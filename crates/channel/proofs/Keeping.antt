@@ -2,10 +2,10 @@
 use mathlib.Core.Path.{_≡_, refl, sym, ap, subst, _∙_}
 use mathlib.Core.List.{List, [], _∷_}
 use mathlib.Core.Bool.{Bool, true, false, cond}
-use mathlib.Core.Logic.{_⊎_, inl, inr, ⊎-elim}
+use mathlib.Core.Logic.{_⊎_, ⊎-elim}
 use Prim.Native.Nat.{ℕ, zero, suc, _+_, _-_, _≤_, _<_}
 use native.Mathlib.Omega.{arith}
-use lib.Dec.{eqb, leb}
+use lib.Dec.{leb}
 use lib.ListN.{length, getD, set, replicate}
 use Rattle.std.proofs.shelf.Tests.{cond-both, cases-lt, ne-eqb, eq-eqb, leb-true, both-ways}
 use Rattle.std.specs.declared.option.Option.{Option}
@@ -13,16 +13,14 @@ use Rattle.std.specs.declared.option.Option.the-variants.{Some, None}
 use Rattle.wire.specs.declared.point.Side.{Side}
 use Rattle.wire.specs.declared.point.Side.the-variants.{Buy, Sell}
 use Rattle.wire.specs.Reading.{Msg, reset, unavailable, mapping, full, delta}
-use Rattle.sink.specs.Events.{Event, data-of, loss-of, refresh-of, restart-of}
+use Rattle.sink.specs.Events.{data-of, refresh-of}
 use Rattle.books.specs.declared.level.Level.{Level}
 use Rattle.books.specs.Levels.{price-of, before, changed}
 use Rattle.books.specs.Entering.{Known, unknown, emptied, touched-at, levels, put, put-all, limited, filled, full-points, delta-points}
 use Rattle.books.specs.Keepers.{Kept, nth, book-of, changed-at, forgotten, keeper-step}
 use Rattle.channel.specs.Machine.{turn}
+use Rattle.channel.proofs.Plain.{never}
 use Rattle.channel.specs.Books.{Sides, no-levels, sides-of, whole-book, full-entered, delta-entered, sent}
-
-never : _≡_ {A = ℕ} 0 1 → ⊥
-never z = omega arith
 
 -- levels of equal books stay equal
 put-same : (s : Side) (l : Level) (b c : Known) → sides-of b ≡ sides-of c → sides-of (put s l b) ≡ sides-of (put s l c)

@@ -1,3 +1,4 @@
+pub mod Plain
 pub mod Maps
 pub mod Numbers
 pub mod Order
@@ -11,3 +12,6 @@ pub mod Books
 pub mod Runs
 pub mod Table
 pub mod Sample
+pub mod Laws
+pub mod Flows
+pub mod Cases

@@ -1,15 +1,12 @@
 -- Laws of maps by number.
-use Prim.Native.Nat.{ℕ, suc, _≤_, _<_}
-use mathlib.Core.Path.{_≡_, refl, sym, ap, _∙_}
-use mathlib.Core.List.{List, [], _∷_}
-use mathlib.Core.Bool.{Bool, true, false, cond}
-use Rattle.std.specs.declared.option.Option.{Option}
-use Rattle.std.specs.declared.option.Option.the-variants.{Some, None}
+use Prim.Native.Nat.{ℕ, _≤_, _<_}
+use mathlib.Core.Path.{_≡_, refl}
+use mathlib.Core.List.{[], _∷_}
+use mathlib.Core.Bool.{true, false}
+use Rattle.std.specs.declared.option.Option.the-variants.{Some}
 use native.Mathlib.Omega.{arith}
-use lib.Dec.{eqb, ltb}
 use lib.ListN.{length}
 use Rattle.std.proofs.shelf.Ways.{tells}
-use Rattle.std.specs.Options.{isSome}
 use Rattle.channel.specs.Maps.{Map, lookup, has, insert, remove}
 
 module _ {V : Type 0} where
@@ -40,3 +37,7 @@ module _ {V : Type 0} where
   pub remove-inserted : (n : ℕ) (v : V) (ps : Map V) → has n ps ≡ false → remove n (insert n v ps) ≡ ps
   remove-inserted n v [] h = grind (arith, tells)
   remove-inserted n v (p ∷ ps) h = let ih = remove-inserted n v ps in let r = remove-absent n ps in grind (arith, tells)
+
+  pub none-left : (n : ℕ) (ps : Map V) → length ps ≤ 0 → has n ps ≡ false
+  none-left n [] l = refl
+  none-left n (p ∷ ps) l = absurd (omega arith)

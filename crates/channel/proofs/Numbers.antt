@@ -5,7 +5,7 @@ use mathlib.Core.List.{List, [], _∷_, _++_, map, reverse, reverse-cons}
 use native.Mathlib.Omega.{arith}
 use Rattle.std.proofs.shelf.Lists.{map-push}
 use Rattle.sink.specs.Events.{Event}
-use Rattle.channel.specs.Promise.{numbers, from-to}
+use Rattle.channel.specs.Promise.{numbers}
 
 -- `k` numbers from `s` on, the newest first
 abbrev pub falling : (ℕ → Event) → ℕ → ℕ → List Event

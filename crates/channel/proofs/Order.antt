@@ -1,11 +1,11 @@
 -- The order and the last number of an earned history.
 use Prim.Native.Nat.{ℕ, zero, suc, _+_, _-_, _≤_, _<_}
-use mathlib.Core.Path.{_≡_, refl, sym, ap, subst, _∙_}
+use mathlib.Core.Path.{_≡_, refl, sym, ap, _∙_}
 use mathlib.Core.List.{List, [], _∷_}
 use mathlib.Core.Bool.{Bool, true, false, cond, _&&_, _||_}
 use Rattle.std.specs.declared.option.Option.{Option}
 use Rattle.std.specs.declared.option.Option.the-variants.{Some, None}
-use mathlib.Core.Logic.{_⊎_, inl, inr, ⊎-elim}
+use mathlib.Core.Logic.{_⊎_, ⊎-elim}
 use native.Mathlib.Omega.{arith}
 use lib.Dec.{eqb, leb}
 use lib.ListN.{length}
@@ -13,11 +13,11 @@ use Rattle.std.proofs.shelf.Ways.{tells}
 use Rattle.std.proofs.shelf.Tests.{cond-both, or-right, cases-lt, cases-eq, ne-eqb, eq-eqb, le-leb, lt-leb}
 use Rattle.std.specs.Options.{isSome}
 use Rattle.wire.specs.Reading.{Msg}
-use Rattle.sink.specs.Events.{Event, data-of, loss-of, refresh-of, restart-of}
-use Rattle.channel.specs.Maps.{Map, lookup, has, insert, remove}
+use Rattle.sink.specs.Events.{Event}
+use Rattle.channel.specs.Maps.{lookup, has, insert}
 use Rattle.channel.specs.Machine.{Call, made, offered, claimed, settled, restarted, History, Content, carries, declares, renews, nothing, Deed, begins, took, deed, Standing, idle, turn, pass, passes, drain, joins, does, machine}
-use Rattle.channel.specs.Promise.{Allowed, Making, Earned, joined, since, begun, start, or-else, first-data, data-packets, covered, recent, due, InOrder, Reaches}
-use Rattle.channel.proofs.Maps.{lookup-inserted, lookup-insert, lookup-remove, length-removed}
+use Rattle.channel.specs.Promise.{Allowed, Earned, joined, since, begun, start, or-else, first-data, data-packets, covered, recent, due, InOrder, Reaches}
+use Rattle.channel.proofs.Maps.{none-left, lookup-inserted, lookup-insert, lookup-remove, length-removed}
 use Rattle.channel.proofs.Numbers.{falling, falling-same, falling-more, reverse-falling}
 
 -- What holds of a machine that began at `s`: `f` gives the message of a number, `cov` says which numbers are covered.
@@ -67,10 +67,6 @@ module _ (f : ℕ → Option Msg) (cov : ℕ → Bool) (s : ℕ) where
 passes-last : (k : ℕ) (m : Standing) → passes k m .last ≡ m .last + k
 passes-last zero m = omega arith
 passes-last (suc k) m = let e = passes-last k (pass m) in omega arith
-
-none-left : (n : ℕ) (ps : Map Msg) → length ps ≤ 0 → has n ps ≡ false
-none-left n [] l = refl
-none-left n (p ∷ ps) l = absurd (omega arith)
 
 drain-rests : (k : ℕ) (m : Standing) → length (m .waiting) ≤ k → has (drain k m .last + 1) (drain k m .waiting) ≡ false
 drain-rests zero m l = none-left (m .last + 1) (m .waiting) l

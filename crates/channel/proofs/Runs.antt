@@ -1,7 +1,7 @@
 -- Lists of calls.
-use mathlib.Core.Path.{_≡_, refl, ap}
-use mathlib.Core.List.{List, [], _∷_, _++_}
-use mathlib.Core.Bool.{true}
+use mathlib.Core.Path.{_≡_, refl, sym, ap, subst}
+use mathlib.Core.List.{List, [], _∷_}
+use mathlib.Core.Bool.{Bool, true}
 use Prim.Native.Nat.{ℕ}
 use Rattle.std.specs.Results.{isOk}
 use Rattle.sink.specs.Events.{Event}
@@ -10,7 +10,7 @@ use Rattle.channel.specs.States.{State}
 use Rattle.channel.specs.Calls.{make-answer, make-after}
 use Rattle.channel.specs.Follows.{Follows, Ask, noted, taken, after}
 use Rattle.channel.specs.Kept.{Promise}
-use Rattle.channel.specs.Runs.{reply, run, replies, logged, Joined}
+use Rattle.channel.specs.Runs.{reply, run, logged, Joined}
 use Rattle.channel.proofs.Follows.{calls-follow, making-follows}
 use Rattle.channel.proofs.Books.{promised}
 
@@ -36,3 +36,11 @@ module _ {M : Type 0} (step : Event → M → M) where
       let h = made first true ∷ [] in
       promised step (c .sink) (logged step xs made-now h) (run step xs made-now)
       (run-follows (c .sink) xs h made-now (making-follows step c number source first t))
+
+  -- after one call, what is known of its answer and of the channel it left
+  pub goes-on : (before : M) (h : History) (c d : State M) (x : Ask) (t : Bool) → t ≡ taken step x c → d ≡ after step x c → Follows step before h c
+      → Follows step before (noted x t ∷ h) d × Promise step before (noted x t ∷ h) d
+  goes-on before h c d x t told is f =
+      let on : Follows step before (noted x t ∷ h) d =
+      subst (λ u. Follows step before (noted x u ∷ h) d) (sym told) (subst (λ u. Follows step before (noted x (taken step x c) ∷ h) u) (sym is) (calls-follow step before h c x f)) in
+      (on, promised step before (noted x t ∷ h) d on)

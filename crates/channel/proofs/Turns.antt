@@ -1,33 +1,27 @@
 -- What flows through a channel goes as the machine goes.
 use mathlib.Core.Path.{_≡_, refl, sym, ap, subst, _∙_}
-use mathlib.Core.List.{List, [], _∷_}
+use mathlib.Core.List.{List, _∷_}
 use mathlib.Core.Bool.{Bool, true, false, cond}
-use mathlib.Core.Logic.{⊎-elim}
-use Prim.Native.Nat.{ℕ, zero, suc, _+_, _-_, _≤_, _<_}
+use Prim.Native.Nat.{ℕ, zero, suc, _+_, _-_, _≤_}
 use native.Mathlib.Omega.{arith}
 use lib.Dec.{eqb}
 use lib.ListN.{length}
 use Rattle.std.proofs.shelf.Tests.{cond-true, cond-false, cond-both, eqb-true, eqb-false}
 use Rattle.std.specs.Options.{isSome}
-use Rattle.std.specs.declared.option.Option.{Option}
-use Rattle.std.specs.declared.option.Option.the-variants.{Some, None}
+use Rattle.std.specs.declared.option.Option.the-variants.{Some}
 use Rattle.wire.specs.Reading.{Msg}
 use Rattle.shelf.specs.Store as on-shelf
 use Rattle.sink.specs.Events.{Event, data-of}
-use Rattle.channel.specs.Maps.{Map, lookup, has, insert, remove, Rising}
+use Rattle.channel.specs.Maps.{lookup, has, remove, Rising}
 use Rattle.channel.specs.Machine.{Content, carries, declares, renews, nothing, content, took, Standing, turn, pass, passes, drain, drained, joins, does}
 use Rattle.channel.specs.Promise.{Allowed}
 use Rattle.channel.specs.Offers.{Flow, data-as, message-of, hand, hands, handing, handed-on, hand-data, keep, takes}
 use Rattle.channel.specs.Follows.{led, Waits}
-use Rattle.channel.proofs.Maps.{length-removed, lookup-inserted, lookup-insert, remove-inserted}
+use Rattle.channel.proofs.Maps.{none-left, length-removed, lookup-inserted, lookup-insert, remove-inserted}
 use Rattle.channel.proofs.Rises.{rising-insert, rising-remove}
 use Rattle.channel.proofs.Shelved.{waits-lookup, waits-has, waits-length, waits-remove, waits-insert}
 
 -- The machine: fuel past what waits changes nothing.
-none-left : (n : ℕ) (ps : Map Msg) → length ps ≤ 0 → has n ps ≡ false
-none-left n [] l = refl
-none-left n (p ∷ ps) l = absurd (omega arith)
-
 drain-same : (k j : ℕ) (s : Standing) → length (s .waiting) ≤ k → length (s .waiting) ≤ j → drain k s ≡ drain j s
 drain-same zero zero s a b = refl
 drain-same zero (suc j) s a b = sym (cond-false (has (s .last + 1) (s .waiting)) _ _ (none-left (s .last + 1) (s .waiting) a))

@@ -1,12 +1,13 @@
 -- What a verdict tells.
 use mathlib.Core.Path.{_≡_, refl, sym, ap, subst, _∙_}
-use mathlib.Core.List.{List, [], _∷_}
+use mathlib.Core.List.{List}
 use mathlib.Core.Bool.{Bool, true, false, cond, _&&_, _||_}
-use Prim.Native.Nat.{ℕ, _+_, _-_, _≤_, _<_}
+use Prim.Native.Nat.{ℕ, _+_, _-_, _≤_}
 use native.Mathlib.Omega.{arith}
 use lib.Dec.{eqb, leb, ltb}
 use lib.ListN.{length}
-use Rattle.std.proofs.shelf.Tests.{or-parts, leb-false, ltb-false}
+use Rattle.std.proofs.shelf.Tests.{or-parts, leb-false, ltb-false, eqb-false}
+use Rattle.std.specs.Options.{isSome}
 use Rattle.std.specs.declared.option.Option.{Option}
 use Rattle.std.specs.declared.option.Option.the-variants.{Some, None}
 use Rattle.std.specs.declared.result.Result.{Result}
@@ -14,21 +15,22 @@ use Rattle.std.specs.declared.result.Result.the-variants.{Ok, Err}
 use Rattle.wire.specs.declared.fault.ReadFault.{ReadFault}
 use Rattle.wire.specs.declared.message.Class.the-variants as class
 use Rattle.wire.specs.Reading.{Msg, Pkt, reset, unavailable, mapping, full, delta, reading, message-class}
-use Rattle.shelf.specs.Store.{Store, put-answer}
+use Rattle.wire.specs.Request.{source-right}
+use Rattle.shelf.specs.Store.{Store}
 use Rattle.shelf.specs.Store as on-shelf
 use Rattle.channel.specs.declared.fault.OfferFault.{OfferFault}
 use Rattle.channel.specs.declared.fault.OfferFault.the-variants.{Channel}
-use Rattle.channel.specs.declared.fault.ChannelFault.the-variants.{Short, Parts, Ahead, Behind, Far, Wide, Phase}
+use Rattle.channel.specs.declared.fault.ChannelFault.the-variants.{Short, Parts, Ahead, Behind, Owed, Whole, Spent, Other, Zero, Source, Phase}
+use Rattle.channel.specs.declared.claim.Claim.{Claim}
 use Rattle.channel.specs.Maps.{Map}
 use Rattle.channel.specs.Machine.{carries, declares, renews, range, took, brings, brought}
 use Rattle.channel.specs.Promise.{Allowed}
 use Rattle.channel.specs.States.{Opened, State, either}
-use Rattle.channel.specs.Offers.{shelf-fault, against-data, against-range, against-refresh, against-message, against, read-then, offer-verdict}
+use Rattle.channel.specs.Offers.{against-data, against-range, against-refresh, against-message, against, read-then, offer-verdict}
+use Rattle.channel.specs.Calls.{make-answer, restart-verdict, claim-of, claim-verdict, same-claim, settle-verdict}
 use Rattle.channel.specs.Follows.{Waits}
+use Rattle.channel.proofs.Plain.{never, ok-same}
 use Rattle.channel.proofs.Shelved.{waits-has}
-
-never : _≡_ {A = ℕ} 0 1 → ⊥
-never z = omega arith
 
 -- what was found where a call is taken
 pub either-ok : {A B E : Type 0} (x : Option A) (e : E) (k : A → Result B E) (y : B) → either x (Err e) k ≡ Ok y → (a : A) × ((x ≡ Some a) × (k a ≡ Ok y))
@@ -110,3 +112,66 @@ module _ (l : ℕ) (s : Store) (p : List ℕ) (w : Map Msg) (waits : Waits (s .h
 
   pub packet-allowed : (q : Pkt) → against l s p q ≡ None → Allowed (took (brought q)) l w
   packet-allowed q e = message-allowed (q .message) q refl e
+
+-- what a restart that is taken found
+pub record Restarted {M : Type 0} (c : State M) (n : ℕ) (o : Opened) : Type 0 where
+  pub opened : c .opened ≡ Some o
+  pub number : 1 ≤ n
+
+pub restart-found : {M : Type 0} (c : State M) (n : ℕ) (o : Opened) → restart-verdict c n ≡ Ok o → Restarted c n o
+restart-found c n o e =
+    let x = either-ok (c .opened) Phase _ o e in
+    let y = cond-ok (isSome (x .0 .out)) Owed _ o (x .1 .1) in
+    let z = cond-ok (eqb n 0) Zero (Ok (x .0)) o (y .1) in
+    let ne = eqb-false n 0 (z .0) in
+    record { opened = x .1 .0 ∙ ap (λ (u : Opened). Some u) (ok-same (x .0) o (z .1)); number = omega arith }
+
+-- what a claim that is given found
+pub record Claimed {M : Type 0} (c : State M) (b : List ℕ) (v : Opened × Claim) : Type 0 where
+  pub opened : c .opened ≡ Some (v .0)
+  pub room : 44 ≤ length b
+  pub next : on-shelf.has (c .shelf .held) (v .0 .last + 1) ≡ false
+  pub least : ℕ
+  pub above : on-shelf.above (c .shelf .held) (v .0 .last) ≡ Some least
+  pub claim : v .1 ≡ claim-of (v .0) least
+
+pub claim-found : {M : Type 0} (c : State M) (b : List ℕ) (v : Opened × Claim) → claim-verdict c b ≡ Ok v → Claimed c b v
+claim-found c b v e =
+    let x = either-ok (c .opened) Phase _ v e in
+    let y = cond-ok (ltb (length b) 44) Short _ v (x .1 .1) in
+    let z = cond-ok (isSome (x .0 .out)) Owed _ v (y .1) in
+    let w = cond-ok (on-shelf.has (c .shelf .held) (x .0 .last + 1)) Whole _ v (z .1) in
+    let u = either-ok (on-shelf.above (c .shelf .held) (x .0 .last)) Whole _ v (w .1) in
+    let t = cond-ok (leb 500 (x .0 .claims)) Spent _ v (u .1 .1) in
+    let same : _≡_ {A = Opened × Claim} (x .0, claim-of (x .0) (u .0)) v = ok-same (x .0, claim-of (x .0) (u .0)) v (t .1) in
+    let o : x .0 ≡ v .0 = ap (λ (p : Opened × Claim). p .0) same in
+    record {
+      opened = x .1 .0 ∙ ap (λ (u : Opened). Some u) o;
+      room = ltb-false (length b) 44 (y .0);
+      next = ap (λ (p : Opened). on-shelf.has (c .shelf .held) (p .last + 1)) (sym o) ∙ w .0;
+      least = u .0;
+      above = ap (λ (p : Opened). on-shelf.above (c .shelf .held) (p .last)) (sym o) ∙ u .1 .0;
+      claim = sym (ap (λ (p : Opened × Claim). p .1) same) ∙ ap (λ (p : Opened). claim-of p (u .0)) o;
+    }
+
+-- what a settlement that is taken found
+pub settle-opened : {M : Type 0} (c : State M) (k : Claim) (v : Opened × Claim) → settle-verdict c k ≡ Ok v → c .opened ≡ Some (v .0)
+settle-opened c k v e =
+    let x = either-ok (c .opened) Phase _ v e in
+    let y = either-ok (x .0 .out) Other _ v (x .1 .1) in
+    let z = ok-cond (same-claim k (y .0)) Other _ v (y .1 .1) in
+    x .1 .0 ∙ ap (λ (p : Opened × Claim). Some (p .0)) (ok-same (x .0, y .0) v (z .1))
+
+-- what a making that is taken found
+pub record Makes {M : Type 0} (c : State M) (source : List ℕ) (first : ℕ) : Type 0 where
+  pub closed : isSome (c .opened) ≡ false
+  pub number : 1 ≤ first
+  pub named : source-right source ≡ true
+
+pub make-found : {M : Type 0} (c : State M) (source : List ℕ) (first : ℕ) (u : Unit {0}) → make-answer c source first ≡ Ok u → Makes c source first
+make-found c source first u e =
+    let x = cond-ok (isSome (c .opened)) Phase _ u e in
+    let y = cond-ok (eqb first 0) Zero _ u (x .1) in
+    let z = ok-cond (source-right source) Source (Ok tt) u (y .1) in
+    let ne = eqb-false first 0 (y .0) in
+    record { closed = x .0; number = omega arith; named = z .0 }

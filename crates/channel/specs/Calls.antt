@@ -10,7 +10,7 @@ use Rattle.std.specs.declared.option.Option.the-variants.{Some, None}
 use Rattle.std.specs.declared.result.Result.{Result}
 use Rattle.std.specs.declared.result.Result.the-variants.{Ok, Err}
 use Rattle.wire.specs.Request.{source-right, request-after}
-use Rattle.shelf.specs.Store.{Packets, Store, has, above, with-held}
+use Rattle.shelf.specs.Store.{Packets, has, above, with-held}
 use Rattle.sink.specs.Events.{Event, restart-of}
 use Rattle.channel.specs.declared.fault.ChannelFault.{ChannelFault}
 use Rattle.channel.specs.declared.fault.ChannelFault.the-variants.{Short, Owed, Whole, Spent, Other, Zero, Source, Phase}

@@ -12,3 +12,5 @@ pub mod Runs
 pub mod Packets
 pub mod Table
 pub mod Sample
+pub mod Laws
+pub mod Cases

@@ -6,7 +6,7 @@ use Rattle.std.specs.declared.option.Option.the-variants.{Some, None}
 use Rattle.std.specs.declared.result.Result.{Result}
 use Rattle.std.specs.declared.result.Result.the-variants.{Ok, Err}
 use Rattle.wire.specs.Request.{bytes32}
-use Rattle.shelf.specs.Store.{Packets, Store, with-held}
+use Rattle.shelf.specs.Store.{Packets, Store}
 use Rattle.sink.specs.Events.{Event}
 use Rattle.channel.specs.declared.fault.OfferFault.{OfferFault}
 use Rattle.channel.specs.declared.claim.Taken.{Taken}
@@ -15,9 +15,17 @@ use Rattle.channel.specs.Promise.{numbers}
 use Rattle.channel.specs.States.{State}
 use Rattle.channel.specs.Offers.{offer-answer, offer-after}
 
--- a packet: its length less two, type, number and flag, with link flag 1, and its body
+-- a packet: its length less two, type, number, flag and link flag, and its body
+abbrev pub linked : ℕ → ℕ → ℕ → ℕ → ℕ → List ℕ → List ℕ
+linked size kind number flag link body = (0 ∷ size ∷ 0 ∷ kind ∷ []) ++ (bytes32 number ++ ((0 ∷ 0 ∷ 0 ∷ 0 ∷ 115 ∷ flag ∷ 1 ∷ link ∷ []) ++ body))
+
+-- the same with link flag 1
 abbrev pub packet : ℕ → ℕ → ℕ → ℕ → List ℕ → List ℕ
-packet size kind number flag body = (0 ∷ size ∷ 0 ∷ kind ∷ []) ++ (bytes32 number ++ ((0 ∷ 0 ∷ 0 ∷ 0 ∷ 115 ∷ flag ∷ 1 ∷ 1 ∷ []) ++ body))
+packet size kind number flag body = linked size kind number flag 1 body
+
+-- a reset, which names the next number
+abbrev pub reset-packet : ℕ → List ℕ
+reset-packet next = packet 18 1 0 1 (bytes32 next)
 
 -- a data packet: a symbol mapping of 30 bytes
 abbrev pub mapping-packet : ℕ → List ℕ
@@ -31,9 +39,13 @@ range-packet b e = packet 22 5 0 1 (bytes32 b ++ bytes32 e)
 abbrev pub full-point : ℕ → ℕ → List ℕ
 full-point volume orders = bytes32 100 ++ (bytes32 volume ++ (0 ∷ orders ∷ 66 ∷ 0 ∷ []))
 
--- a full update of index 1 at scale 0, with one point; with flag 6 it is a refresh
+-- a full update of index 1 at scale 0, with one point
+abbrev pub full-body : ℕ → ℕ → List ℕ
+full-body volume orders = (0 ∷ 0 ∷ 0 ∷ 1 ∷ []) ++ (replicate 26 0 ++ full-point volume orders)
+
+-- the packet of it; with flag 6 it is a refresh
 abbrev pub full-packet : ℕ → ℕ → ℕ → ℕ → List ℕ
-full-packet number flag volume orders = packet 56 230 number flag ((0 ∷ 0 ∷ 0 ∷ 1 ∷ []) ++ (replicate 26 0 ++ full-point volume orders))
+full-packet number flag volume orders = packet 56 230 number flag (full-body volume orders)
 
 -- the point of a delta: a level of two orders, for a new order, its side B or S
 abbrev pub delta-point : ℕ → ℕ → ℕ → List ℕ

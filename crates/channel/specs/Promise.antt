@@ -9,7 +9,7 @@ use Rattle.std.specs.declared.option.Option.the-variants.{Some, None}
 use Rattle.wire.specs.Reading.{Msg}
 use Rattle.sink.specs.Events.{Event, data-of, loss-of, refresh-of, restart-of}
 use Rattle.channel.specs.Maps.{Map, has}
-use Rattle.channel.specs.Machine.{Call, made, offered, claimed, settled, restarted, History, Content, carries, declares, renews, nothing, Deed, begins, took, deed, idle, machine}
+use Rattle.channel.specs.Machine.{Call, made, offered, claimed, settled, restarted, History, Content, carries, declares, renews, nothing, Deed, begins, took, deed, machine}
 
 -- What may be done where last is `l` and the messages `w` wait: a beginning at 1 or above; a data packet above last that does not wait;
 -- a range that goes on from last and ends above it; a refresh as of last at most.

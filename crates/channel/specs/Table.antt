@@ -9,7 +9,7 @@ use Rattle.shelf.specs.Store.{Store, has, priced, with-held}
 use Rattle.slot_shelf.specs.Slots.{empty-store}
 use Rattle.chain_shelf.specs.Chain as chain
 use Rattle.sink.specs.Events.{Event, data-of, loss-of}
-use Rattle.books.specs.Entering.{Known, emptied}
+use Rattle.books.specs.Entering.{emptied}
 use Rattle.books.specs.Keepers.{Kept, keeper-step}
 use Rattle.channel.specs.States.{State}
 use Rattle.channel.specs.Calls.{make-after}

@@ -5,6 +5,8 @@ ghost use Rattle.channel.specs.Follows.{Calls-follow, Making-follows};
 ghost use Rattle.channel.specs.Books.{Books-stand};
 ghost use Rattle.channel.specs.Kept.{Promise-stands};
 ghost use Rattle.channel.specs.Runs.{Runs-join, Runs-stand};
+ghost use Rattle.channel.specs.Cases.{Cases};
+ghost use Rattle.channel.specs.Laws.{Counts, Sources-stay, Claims-ask};
 ghost use Rattle.channel.specs.Sample.{SampleHolds};
 ghost use Rattle.channel.specs.Table.{Table};
 use sink::Sink;
@@ -60,6 +62,14 @@ pub fn runs_stand<S: Sink>()
     ensures stand { λ _. ⌜ Runs-stand (S·Sink .step) ⌝ }
 {}
 
+/// A taken offer counts the data and loss events that it handed over; the source id stays right; a claim asks for missing numbers only, and its
+/// request stands in the buffer: theorems.
+pub fn laws_stand<S: Sink>()
+    ensures counts { λ _. ⌜ Counts (S·Sink .step) ⌝ }
+    ensures sources { λ _. ⌜ Sources-stay (S·Sink .step) ⌝ }
+    ensures claims { λ _. ⌜ Claims-ask (S·Sink .step) ⌝ }
+{}
+
 /// Worked cases: a theorem.
 pub fn table_holds()
     ensures { λ _. ⌜ Table ⌝ }
@@ -68,4 +78,9 @@ pub fn table_holds()
 /// The promise is not empty: a run of real packets that earns it, with a whole book at its end: a theorem.
 pub fn sample_holds()
     ensures { λ _. ⌜ SampleHolds ⌝ }
+{}
+
+/// Worked cases of each refusal, in their order, and of the buffers: a theorem.
+pub fn cases_hold()
+    ensures { λ _. ⌜ Cases ⌝ }
 {}
