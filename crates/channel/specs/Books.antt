@@ -21,6 +21,7 @@ pub record Sides : Type 0 where
   pub buys : List Level
   pub sells : List Level
 
+-- an empty book
 abbrev pub no-levels : Sides
 no-levels = record { buys = []; sells = [] }
 
@@ -78,6 +79,7 @@ True t s (declares b e) = Unit {0}
 True t s (renews n m) = TrueRefresh t s n m
 True t s nothing = Unit {0}
 
+-- all that was taken is true of a stream with this first number
 abbrev pub AllTrue : Stream → ℕ → List Content → Type 0
 AllTrue t s [] = Unit {0}
 AllTrue t s (c ∷ cs) = True t s c × AllTrue t s cs
@@ -91,5 +93,6 @@ Right right k = (i : ℕ) (b : Known) → book-of i (k .books) ≡ Some b → b 
 abbrev pub BooksRight : {M : Type 0} → (Event → M → M) → M → History → ℕ → Type 0
 BooksRight {M = M} step m h l = (t : Stream) → AllTrue t (start h) (since h) → (view : M → Kept) → Moves step keeper-step view → Right (stream-book t (start h) l) (view m)
 
+-- the books of every earned history, for a sink with this step
 abbrev pub Books-stand : {M : Type 0} → (Event → M → M) → Type 0
 Books-stand {M = M} step = (before : M) (h : History) → Earned h → BooksRight step (led step (machine h .order) before) h (machine h .last)

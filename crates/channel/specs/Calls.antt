@@ -28,6 +28,7 @@ make-answer c source first =
 abbrev pub begun-at : {M : Type 0} → (Event → M → M) → ℕ → Opened → State M → State M
 begun-at step n o c = record { opened = Some (at-last (n - 1) o); shelf = with-held (c .shelf) []; sink = step (restart-of n) (c .sink) }
 
+-- the channel after a making; a refused one leaves it as it was
 abbrev pub make-after : {M : Type 0} → (Event → M → M) → State M → ℕ → List ℕ → ℕ → State M
 make-after step c number source first =
     on-ok (make-answer c source first) (λ u. begun-at step first (record { number = number; source = source; last = 0; out = None; claims = 0 }) c) c
@@ -39,9 +40,11 @@ restart-verdict c n =
     cond (isSome (o .out)) (Err Owed)
     (cond (eqb n 0) (Err Zero) (Ok o)))
 
+-- the answer of a restart
 abbrev pub restart-answer : {M : Type 0} → State M → ℕ → Result (Unit {0}) ChannelFault
 restart-answer c n = answer (restart-verdict c n) (λ o. tt)
 
+-- the channel after it
 abbrev pub restart-after : {M : Type 0} → (Event → M → M) → State M → ℕ → State M
 restart-after step c n = on-ok (restart-verdict c n) (λ o. begun-at step n o c) c
 
@@ -60,6 +63,7 @@ claim-verdict c buffer =
     cond (leb 500 (o .claims)) (Err Spent)
     (Ok (o, claim-of o least)))))))
 
+-- the answer of a claim
 abbrev pub claim-answer : {M : Type 0} → State M → List ℕ → Result Claim ChannelFault
 claim-answer c buffer = answer (claim-verdict c buffer) (λ v. v .1)
 
@@ -71,6 +75,7 @@ with-claim out n o = record { number = o .number; source = o .source; last = o .
 abbrev pub reclaimed : {M : Type 0} → State M → Option Claim → ℕ → Opened → State M
 reclaimed c out n o = record { opened = Some (with-claim out n o); shelf = c .shelf; sink = c .sink }
 
+-- the channel after a claim: it is out, and counted
 abbrev pub claim-after : {M : Type 0} → State M → List ℕ → State M
 claim-after c buffer = on-ok (claim-verdict c buffer) (λ v. reclaimed c (Some (v .1)) (v .0 .claims + 1) (v .0)) c
 
@@ -102,5 +107,6 @@ missing-of v h = missing (v .0 .last) h (v .1 .begin) (v .1 .end + 1 - v .1 .beg
 abbrev pub settle-answer : {M : Type 0} → State M → Claim → Result ℕ (ChannelFault × Claim)
 settle-answer c k = back k (answer (settle-verdict c k) (λ v. missing-of v (c .shelf .held)))
 
+-- the channel after a settlement: no claim is out
 abbrev pub settle-after : {M : Type 0} → State M → Claim → State M
 settle-after c k = on-ok (settle-verdict c k) (λ v. reclaimed c None (v .0 .claims) (v .0)) c

@@ -13,7 +13,7 @@ use Rattle.wire.specs.Request.{request}
 use Rattle.shelf.specs.declared.PutFault.the-variants as shelf
 use Rattle.shelf.specs.Store.{Packets, with-held}
 use Rattle.slot_shelf.specs.Slots.{empty-store}
-use Rattle.sink.specs.Events.{Event, data-of, loss-of}
+use Rattle.sink.specs.Events.{Event, data-of, loss-of, restart-of}
 use Rattle.channel.specs.declared.fault.ChannelFault.the-variants.{Short, Reset, Parts, Ahead, Behind, Far, Wide, Owed, Whole, Spent, Other, Zero, Source, Phase}
 use Rattle.channel.specs.declared.fault.OfferFault.{OfferFault}
 use Rattle.channel.specs.declared.fault.OfferFault.the-variants.{Reader, Shelf, Channel}
@@ -21,7 +21,7 @@ use Rattle.channel.specs.declared.claim.Claim.{Claim}
 use Rattle.channel.specs.declared.claim.Taken.{Taken}
 use Rattle.channel.specs.States.{State}
 use Rattle.channel.specs.Offers.{offer-answer, offer-after, offer-scratch}
-use Rattle.channel.specs.Calls.{make-answer, claim-answer, claim-buffer, claim-after, settle-answer, settle-after, restart-answer}
+use Rattle.channel.specs.Calls.{make-answer, make-after, claim-answer, claim-buffer, claim-after, settle-answer, settle-after, restart-answer, restart-after}
 use Rattle.channel.specs.Packets.{linked, reset-packet, mapping-packet, range-packet, full-body, full-packet, delta-packet, scratch, opened-at, packets-from, note}
 
 -- a channel that is closed
@@ -32,7 +32,7 @@ closed = record { opened = None; shelf = empty-store; sink = [] }
 abbrev pub holding : ℕ → Packets → State (List Event)
 holding l h = opened-at l (with-held empty-store h) []
 
--- .. with a claim out, or after so many claims
+-- an open one with a claim out or none, after so many claims
 abbrev pub claiming : ℕ → Packets → Option Claim → ℕ → State (List Event)
 claiming l h out n = record { opened = Some (record { number = 1; source = 65 ∷ []; last = l; out = out; claims = n }); shelf = with-held empty-store h; sink = [] }
 
@@ -40,10 +40,15 @@ claiming l h out n = record { opened = Some (record { number = 1; source = 65 �
 abbrev pub gap : ℕ → Claim
 gap serial = record { channel = 1; serial = serial; begin = 2; end = 4 }
 
+-- a channel that was told to begin at 9, after so many claims
+abbrev pub told-restart : ℕ → State (List Event)
+told-restart n = record { opened = Some (record { number = 1; source = 65 ∷ []; last = 8; out = None; claims = n }); shelf = empty-store; sink = restart-of 9 ∷ [] }
+
 -- an offer's answer with a buffer of 1,500 bytes
 abbrev pub offering : State (List Event) → List ℕ → Result Taken OfferFault
 offering c p = offer-answer note c p scratch
 
+-- each case by computing
 pub record Cases : Type 0 where
   -- a making
   pub make-phase : make-answer (holding 5 []) [] 0 ≡ Err Phase
@@ -73,8 +78,11 @@ pub record Cases : Type 0 where
   pub scratch-after : offer-scratch note (holding 0 ((2, delta-packet 2 100 6 66) ∷ packets-from 3 1)) (mapping-packet 1) scratch
       ≡ mapping-packet 3 ++ (drop 30 (delta-packet 2 100 6 66) ++ replicate 1438 0)
   pub scratch-refused : offer-scratch note (holding 0 (packets-from 1 1)) (mapping-packet 1) scratch ≡ scratch
-  -- a packet off the shelf that is not data is a loss
-  pub not-data : offer-after note (holding 0 ((2, range-packet 7 8) ∷ [])) (mapping-packet 1) scratch .sink ≡ loss-of 2 ∷ data-of 1 mapping ∷ []
+  -- a packet off the shelf that is not data is a loss: a range, a refresh, a reset, or one that can't be read
+  pub shelved-range : offer-after note (holding 0 ((2, range-packet 7 8) ∷ [])) (mapping-packet 1) scratch .sink ≡ loss-of 2 ∷ data-of 1 mapping ∷ []
+  pub shelved-refresh : offer-after note (holding 0 ((2, full-packet 2 6 9 1) ∷ [])) (mapping-packet 1) scratch .sink ≡ loss-of 2 ∷ data-of 1 mapping ∷ []
+  pub shelved-reset : offer-after note (holding 0 ((2, reset-packet 9) ∷ [])) (mapping-packet 1) scratch .sink ≡ loss-of 2 ∷ data-of 1 mapping ∷ []
+  pub shelved-unread : offer-after note (holding 0 ((2, []) ∷ [])) (mapping-packet 1) scratch .sink ≡ loss-of 2 ∷ data-of 1 mapping ∷ []
   -- a claim
   pub claim-phase : claim-answer closed [] ≡ Err Phase
   pub claim-short : claim-answer (claiming 1 [] (Some (gap 1)) 500) (replicate 43 7) ≡ Err Short
@@ -93,8 +101,13 @@ pub record Cases : Type 0 where
   pub settle-channel : settle-answer (claiming 1 [] (Some (gap 1)) 1) (record { channel = 2; serial = 1; begin = 2; end = 4 }) ≡ Err (Other, record { channel = 2; serial = 1; begin = 2; end = 4 })
   pub settle-missing : settle-answer (claiming 2 (packets-from 3 1) (Some (gap 1)) 1) (gap 1) ≡ Ok 1
   pub settle-out : settle-after (claiming 2 (packets-from 3 1) (Some (gap 1)) 1) (gap 1) ≡ claiming 2 (packets-from 3 1) None 1
+  pub settle-range : settle-answer (claiming 1 [] (Some (record { channel = 1; serial = 1; begin = 2; end = 9 })) 1) (gap 1) ≡ Ok 8
   -- a restart
   pub restart-phase : restart-answer closed 0 ≡ Err Phase
   pub restart-owed : restart-answer (claiming 1 [] (Some (gap 1)) 1) 0 ≡ Err Owed
   pub restart-zero : restart-answer (claiming 1 [] None 1) 0 ≡ Err Zero
   pub restart-taken : restart-answer (claiming 1 [] None 1) 9 ≡ Ok tt
+  -- a making and a restart: the shelf is cleared and the sink told; the claims made count from the making
+  pub made : make-after note (record { opened = None; shelf = with-held empty-store (packets-from 5 2); sink = [] }) 1 (65 ∷ []) 9 ≡ told-restart 0
+  pub restarted : restart-after note (claiming 1 (packets-from 5 2) None 3) 9 ≡ told-restart 3
+  pub restart-refused : restart-after note (claiming 1 (packets-from 5 2) None 3) 0 ≡ claiming 1 (packets-from 5 2) None 3

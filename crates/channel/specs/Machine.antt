@@ -41,6 +41,7 @@ range mapping = nothing
 range (full i s ps) = nothing
 range (delta i s ps) = nothing
 
+-- what a packet of a class brings
 abbrev pub brings : Class → Pkt → Content
 brings class.Reset q = nothing
 brings class.Unavailable q = range (q .message)
@@ -51,6 +52,7 @@ brings class.Refresh q = renews (q .number) (q .message)
 abbrev pub brought : Pkt → Content
 brought q = brings (class-of q) q
 
+-- the same of a reading
 abbrev pub read-content : Result Pkt ReadFault → Content
 read-content (Ok q) = brought q
 read-content (Err f) = nothing
@@ -64,6 +66,7 @@ pub data Deed : Type 0 where
   begins : ℕ → Deed
   took : Content → Deed
 
+-- the deed of a call
 abbrev pub deed : Call → Deed
 deed (made n true) = begins n
 deed (made n false) = took nothing

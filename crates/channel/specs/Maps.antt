@@ -7,6 +7,7 @@ use Rattle.std.specs.Options.{isSome}
 use Rattle.std.specs.declared.option.Option.{Option}
 use Rattle.std.specs.declared.option.Option.the-variants.{Some, None}
 
+-- a list of such pairs
 abbrev pub Map : Type 0 → Type 0
 Map V = List (ℕ × V)
 

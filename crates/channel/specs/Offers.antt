@@ -45,6 +45,7 @@ abbrev pub against-refresh : ℕ → Pkt → Option OfferFault
 against-refresh l q =
     cond (eqb (q .flag) 6 && eqb (q .link) 1) (cond (ltb l (q .number)) (Some (Channel Ahead)) None) (Some (Channel Parts))
 
+-- the same by the message: a reset is never taken, and a full update with flag 5 or 6 is a refresh
 abbrev pub against-message : Msg → ℕ → Store → List ℕ → Pkt → Option OfferFault
 against-message (reset n) l s p q = Some (Channel (Reset n))
 against-message (unavailable b e) l s p q = against-range l b e

@@ -76,6 +76,7 @@ pub data Outcome : Type 0 where
   handed : ℕ → Outcome
   refused : ℕ → Outcome
 
+-- the outcome of an answer
 abbrev pub outcome : Result Taken OfferFault → Outcome
 outcome (Ok t) = handed (t .handed)
 outcome (Err f) = refused (offer-fault-number f)

@@ -35,20 +35,22 @@ Earned [] = ⊥
 Earned (c ∷ []) = Making c × Allowed (deed c) 0 []
 Earned (c ∷ d ∷ h) = (Making c → ⊥) × Allowed (deed c) (machine (d ∷ h) .last) (machine (d ∷ h) .waiting) × Earned (d ∷ h)
 
--- What was taken since the last restart (the making counts as one), newest first; a call that took nothing is among it as nothing.
+-- what was taken before and a deed, newest first: a beginning leaves nothing of it, and a call that took nothing is among it as nothing
 abbrev pub joined : Deed → List Content → List Content
 joined (begins n) cs = []
 joined (took c) cs = c ∷ cs
 
+-- what was taken since the last restart (the making counts as one), newest first
 abbrev pub since : History → List Content
 since [] = []
 since (c ∷ h) = joined (deed c) (since h)
 
--- the number of the last restart
+-- the number of a beginning, or the one before
 abbrev pub begun : Deed → ℕ → ℕ
 begun (begins n) k = n
 begun (took c) k = k
 
+-- the number of the last restart of a history
 abbrev pub start : History → ℕ
 start [] = 0
 start (c ∷ h) = begun (deed c) (start h)
@@ -116,9 +118,11 @@ pub record Reaches (h : History) : Type 0 where
   pub behind : (n : ℕ) → start h ≤ n → n ≤ machine h .last → covered (since h) n ≡ true
   pub next : covered (since h) (machine h .last + 1) ≡ false
 
+-- the order of every earned history
 abbrev pub Order-stands : Type 0
 Order-stands = (h : History) → Earned h → InOrder h
 
+-- the last number of every earned history
 abbrev pub Last-stands : Type 0
 Last-stands = (h : History) → Earned h → Reaches h
 

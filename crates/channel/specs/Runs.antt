@@ -25,6 +25,7 @@ pub data Reply : Type 0 where
   ended : Result ℕ (ChannelFault × Claim) → Reply
 
 module _ {M : Type 0} (step : Event → M → M) where
+  -- what a call gives back
   abbrev pub reply : Ask → State M → Reply
   reply (make number source first) c = begun (make-answer c source first)
   reply (offer p scratch) c = tried (offer-answer step c p scratch) (offer-scratch step c p scratch)
@@ -53,6 +54,7 @@ module _ {M : Type 0} (step : Event → M → M) where
     pub gives : replies (xs ++ ys) c ≡ replies xs c ++ replies ys (run xs c)
     pub notes : (h : History) → logged (xs ++ ys) c h ≡ logged ys (run xs c) (logged xs c h)
 
+  -- of any two lists of calls
   abbrev pub Runs-join : Type 0
   Runs-join = (xs ys : List Ask) (c : State M) → Joined xs ys c
 

@@ -27,6 +27,7 @@ quotes n =
     (cond (eqb n 3) (delta 1 0 (delta-point 100 9 66))
     (cond (eqb n 5) (delta 1 0 (delta-point 105 4 83)) mapping)))
 
+-- the stream of these messages, no book having a level before it
 abbrev pub feed : Stream
 feed = record { before = λ i. no-levels; message = quotes }
 
@@ -65,6 +66,7 @@ sample =
     ∷ made 1 true
     ∷ []
 
+-- each part by computing
 pub record SampleHolds : Type 0 where
   -- the calls make this history, and it keeps the rules
   pub history : logged keeper-step calls closed [] ≡ sample

@@ -31,6 +31,7 @@ touched-keeper n = record { depth = 1; mark = 2; books = emptied false n ∷ [] 
 abbrev pub refreshed : ℕ → Kept
 refreshed n = offered-all keeper-step (full-packet 5 6 9 1 ∷ []) (opened-at 7 empty-store (touched-keeper n)) .sink
 
+-- each row by computing
 pub record Table : Type 0 where
   -- a chain: what lengths cost in units
   pub cost-54 : priced empty-chain 54 ≡ 1
