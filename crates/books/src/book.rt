@@ -32,6 +32,17 @@ impl Book {
         buys: 0,
         sells: 0,
     };
+
+    // A book with no level.
+    fn empty(whole: bool, touched: u32) -> Book
+        ensures { λ r. ⌜ r ≡ record { whole = whole; touched = touched; buys = 0; sells = 0 } ⌝ }
+    {
+        Book {
+            whole,
+            touched,
+            ..Book::UNKNOWN
+        }
+    }
 }
 
 /// The points of a message: that part of the packet, and the scale of its prices.
@@ -92,17 +103,11 @@ fn put(
     match side {
         Side::Buy => match change::<Buys>(buys, book.buys, depth, level) {
             Some(used) => book.buys = used,
-            None => *book = Book {
-                touched: book.touched,
-                ..Book::UNKNOWN
-            },
+            None => *book = Book::empty(false, book.touched),
         },
         Side::Sell => match change::<Sells>(sells, book.sells, depth, level) {
             Some(used) => book.sells = used,
-            None => *book = Book {
-                touched: book.touched,
-                ..Book::UNKNOWN
-            },
+            None => *book = Book::empty(false, book.touched),
         },
     }
 }
@@ -136,23 +141,13 @@ pub(crate) fn tell(
     ensures { λ _. ⌜ known (now (book .exit)) (now (buys .exit)) (now (sells .exit)) ≡ told depth start (points-of (points .entry)) (known (now (book .entry)) (now (buys .entry)) (now (sells .entry))) ⌝ }
 {
     match start {
-        Start::Full(number) => *book = Book {
-            whole: true,
-            touched: number,
-            buys: 0,
-            sells: 0,
-        },
+        Start::Full(number) => *book = Book::empty(true, number),
         Start::Delta(number) => book.touched = number,
         Start::Refresh(number) => {
             if book.touched > number {
                 return;
             }
-            *book = Book {
-                whole: true,
-                touched: book.touched,
-                buys: 0,
-                sells: 0,
-            };
+            *book = Book::empty(true, book.touched);
         }
     }
     fill(book, buys, sells, depth, points);
