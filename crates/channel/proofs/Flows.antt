@@ -12,10 +12,15 @@ use Rattle.std.proofs.shelf.Lists.{take-at, length-append, length-drop}
 use Rattle.std.specs.declared.option.Option.{Option}
 use Rattle.std.specs.declared.option.Option.the-variants.{Some, None}
 use Rattle.std.specs.declared.result.Result.the-variants.{Ok, Err}
+use Rattle.wire.specs.declared.fault.ReadFault.{ReadFault}
+use Rattle.wire.specs.declared.message.Class.{Class}
+use Rattle.wire.specs.declared.message.Class.the-variants as class
+use Rattle.wire.specs.Reading.{Msg, Pkt, reset, unavailable, mapping, full, delta, reading, class-of}
 use Rattle.shelf.specs.declared.PutFault.the-variants.{Length, Held, Full}
 use Rattle.shelf.specs.Store.{Packets, Store, lookup, has, insert, remove, right, used, with-held, put-answer, put-after, length-of, written, Up, Sized}
 use Rattle.sink.specs.Events.{Event}
-use Rattle.channel.specs.Offers.{Flow, hand, hands, handing, handed-on}
+use Rattle.channel.specs.Machine.{brings, range, read-content, turn}
+use Rattle.channel.specs.Offers.{Flow, data-as, message-of, hand, hands, handing, handed-on}
 use Rattle.channel.specs.Calls.{missing}
 use Rattle.channel.proofs.Plain.{never}
 
@@ -108,3 +113,35 @@ taken-none (Some p) e = absurd (never (cc))
 pub room-kept : (o : Option (List ℕ)) (buffer : List ℕ) → ((p : List ℕ) → o ≡ Some p → length p ≤ length buffer) → length (written o buffer) ≡ length buffer
 room-kept None buffer f = refl
 room-kept (Some p) buffer f = let l = f p refl in simp (length-append, length-drop) (omega arith)
+
+-- the message of a packet off the shelf: of data, of what is not data, and of what can't be read
+pub read-data : (p : List ℕ) (q : Pkt) → reading p ≡ Ok q → class-of q ≡ class.Data → message-of (Some p) ≡ Some (q .message)
+read-data p q e k = ap (λ r. data-as (read-content r)) e ∙ ap (λ x. data-as (brings x q)) k
+
+no-range : (m : Msg) → data-as (range m) ≡ None
+no-range (reset n) = refl
+no-range (unavailable b e) = refl
+no-range mapping = refl
+no-range (full i s ps) = refl
+no-range (delta i s ps) = refl
+
+pub read-other : (p : List ℕ) (q : Pkt) → reading p ≡ Ok q → (class-of q ≡ class.Data → ⊥) → message-of (Some p) ≡ None
+read-other p q e ne = ap (λ r. data-as (read-content r)) e ∙ go (class-of q) ne
+  where
+    go : (k : Class) → (k ≡ class.Data → ⊥) → data-as (brings k q) ≡ None
+    go class.Reset ne = refl
+    go class.Unavailable ne = no-range (q .message)
+    go class.Data ne = absurd (ne refl)
+    go class.Refresh ne = refl
+
+pub read-not : (p : List ℕ) (f : ReadFault) → reading p ≡ Err f → message-of (Some p) ≡ None
+read-not p f e = ap (λ r. data-as (read-content r)) e
+
+-- the next number was handed over
+pub handed : {M : Type 0} (step : Event → M → M) (f : Flow M) (h : Packets) (m : M) (b : List ℕ) (o : Option (List ℕ)) → lookup (f .held) (f .last + 1) ≡ o
+    → h ≡ remove (f .last + 1) (f .held) → m ≡ step (turn (f .last + 1) (message-of o)) (f .sink) → b ≡ written o (f .scratch)
+    → _≡_ {A = Flow M} (record { last = f .last + 1; held = h; sink = m; scratch = b }) (hand step f)
+handed step f h m b o p q r w =
+    let x = r ∙ ap (λ y. step (turn (f .last + 1) (message-of y)) (f .sink)) (sym p) in
+    let y = w ∙ ap (λ y. written y (f .scratch)) (sym p) in
+    λ i. record { last = f .last + 1; held = q i; sink = x i; scratch = y i }
