@@ -2,6 +2,8 @@
 ghost use Rattle.channel.specs.Machine.{Waiting-rises};
 ghost use Rattle.channel.specs.Promise.{Order-stands, Last-stands, Taken-once};
 ghost use Rattle.channel.specs.Follows.{Calls-follow, Making-follows};
+ghost use Rattle.sink.specs.Views.{Whole-moves, First-moves, Second-moves};
+ghost use Rattle.books.specs.Keepers.{keeper-step};
 ghost use Rattle.channel.specs.Books.{Books-stand};
 ghost use Rattle.channel.specs.Kept.{Promise-stands};
 ghost use Rattle.channel.specs.Runs.{Runs-join, Runs-stand};
@@ -49,6 +51,14 @@ pub fn calls_follow<S: Sink>()
 /// The whole books of every earned history, in whatever of a sink moves as a keeper: a theorem.
 pub fn books_stand<S: Sink>()
     ensures { λ _. ⌜ Books-stand (S·Sink .step) ⌝ }
+{}
+
+/// A keeper moves as a keeper, and what moves so in one of two sinks moves so in their twin: a theorem, so that the books of a keeper at any depth of
+/// twins are promised.
+pub fn keepers_move<A: Sink, B: Sink>()
+    ensures whole { λ _. ⌜ Whole-moves keeper-step ⌝ }
+    ensures first { λ _. ⌜ First-moves (A·Sink .step) (B·Sink .step) keeper-step ⌝ }
+    ensures second { λ _. ⌜ Second-moves (A·Sink .step) (B·Sink .step) keeper-step ⌝ }
 {}
 
 /// Whatever follows a history keeps the promise, in its order, its last number and its books: a theorem.
