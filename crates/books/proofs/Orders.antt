@@ -6,6 +6,7 @@ use Prim.Native.Nat.{ℕ, zero, suc, _<_, _≤_}
 use native.Mathlib.Omega.{arith}
 use lib.ListN.{length, getD, set, replicate}
 use lib.Dec.{eqb, leb}
+use Rattle.std.specs.shelf.Maps.{nth}
 use Rattle.std.specs.shelf.Lists.{All}
 use Rattle.std.specs.declared.option.Option.the-variants.{Some}
 use Rattle.std.proofs.shelf.Elements.{all-set}
@@ -20,7 +21,7 @@ use Rattle.books.specs.declared.level.Level.{Level}
 use Rattle.books.specs.declared.level.Point.{Point}
 use Rattle.books.specs.Levels.{price-of, before, changed}
 use Rattle.books.specs.Entering.{Known, unknown, emptied, touched-at, levels, put, put-all, limited, filled, full-points, delta-points}
-use Rattle.books.specs.Keepers.{Kept, keeper-step, at-book, nth, book-of}
+use Rattle.books.specs.Keepers.{Kept, keeper-step, at-book, book-of}
 use Rattle.books.specs.Laws.{Laddered, InOrder, Points-fit, Keeping}
 
 -- both sides of a book are in order

@@ -7,12 +7,14 @@ use native.Mathlib.Omega.{arith}
 use borrow.Author.Needs.{needs}
 use borrow.Rule.Slice.PartMut.{putMid}
 use lib.ListN.{length, getD, set, take, drop, replicate}
+use Rattle.std.specs.shelf.Maps.{nth}
+use Rattle.std.proofs.shelf.Maps.{nth-getD, nth-past}
 use Rattle.std.proofs.shelf.Lists.{same-lists, places, set-past, length-take, length-take-le, length-drop}
 use Rattle.books.specs.declared.level.Level.{Level}
 use Rattle.books.specs.declared.book.Book.{Book}
 use Rattle.std.specs.declared.option.Option.the-variants.{Some, None}
 use Rattle.books.specs.Entering.{Known, known, unknown}
-use Rattle.books.specs.Keepers.{cut, each-known, tabled, changed-at, nth, book-of, shown, blank, Spot, Nowhere}
+use Rattle.books.specs.Keepers.{cut, each-known, tabled, changed-at, book-of, shown, blank, Spot, Nowhere}
 use Rattle.books.proofs.Parts.{part-end, length-parts, parts-get, cut-put}
 
 length-known : (bs : List Book) (xs : List (List Level)) (ys : List (List Level)) → length (each-known bs xs ys) ≡ min (min (length bs) (length xs)) (length ys)
@@ -42,16 +44,6 @@ known-blank b v e [] xs ys = refl
 known-blank b v e (c ∷ bs) [] ys = refl
 known-blank b v e (c ∷ bs) (x ∷ xs) [] = refl
 known-blank b v e (c ∷ bs) (x ∷ xs) (y ∷ ys) = rw (e x y, known-blank b v e bs xs ys) refl
-
-pub nth-get : {X : Type 0} (xs : List X) (i : ℕ) (d : X) → i < length xs → nth xs i ≡ Some (getD xs i d)
-nth-get [] i d h = absurd (omega arith)
-nth-get (x ∷ xs) zero d h = refl
-nth-get (x ∷ xs) (suc i) d h = nth-get xs i d (omega arith)
-
-pub nth-past : {X : Type 0} (xs : List X) (i : ℕ) → length xs ≤ i → nth xs i ≡ None
-nth-past [] i h = refl
-nth-past (x ∷ xs) zero h = absurd (omega arith)
-nth-past (x ∷ xs) (suc i) h = nth-past xs i (omega arith)
 
 -- the part i of a table is of d rows
 pub part-long : {X : Type 0} (d i : ℕ) (xs : List X) → i * d + d ≤ length xs → length (take d (drop (i * d) xs)) ≡ d
@@ -106,7 +98,7 @@ module _ (d : ℕ) (bs : List Book) (xs : List Level) (ys : List Level) where
         ∙ known-set bs (cut d xs) (cut d ys) i b xs′ ys′
 
     seen : (n : ℕ) → n ≡ suc i → book-of n (tabled d bs xs ys) ≡ Some (known (getD bs i blank) (take d (drop (i * d) xs)) (take d (drop (i * d) ys)))
-    seen n e = ap (λ n. book-of n (tabled d bs xs ys)) e ∙ nth-get (tabled d bs xs ys) i unknown h ∙ ap (λ b. Some b) (get-known unknown blank)
+    seen n e = ap (λ n. book-of n (tabled d bs xs ys)) e ∙ nth-getD (tabled d bs xs ys) i unknown h ∙ ap (λ b. Some b) (get-known unknown blank)
 
     side-count : (c : ℕ) (zs : List Level) → i * d + d ≤ length zs → length (take c (take d (drop (i * d) zs))) ≡ min c d
     side-count c zs e = length-take c (take d (drop (i * d) zs)) ∙ ap (λ n. min c n) (part-long d i zs e)

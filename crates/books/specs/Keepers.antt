@@ -6,6 +6,7 @@ use Prim.Native.Nat.{ℕ, zero, suc, _-_, _/_, _+_, _*_, _<_, _≤_, min}
 use lib.ListN.{length, take, drop, getD, set, replicate}
 use lib.Dec.{leb, eqb}
 use denote.Ref.{now}
+use Rattle.std.specs.shelf.Maps.{nth}
 use Rattle.std.specs.declared.option.Option.{Option}
 use Rattle.std.specs.declared.option.Option.the-variants.{Some, None}
 use Rattle.wire.specs.declared.point.Side.{Side}
@@ -101,12 +102,6 @@ keeper-step (refresh-of n (reset m)) k = k
 keeper-step (refresh-of n (unavailable b e)) k = k
 keeper-step (refresh-of n mapping) k = k
 keeper-step (restart-of n) k = forgotten (n - 1) k
-
--- an element of a list, if there is one
-abbrev pub nth : {X : Type 0} → List X → ℕ → Option X
-nth [] i = None
-nth (x ∷ xs) zero = Some x
-nth (x ∷ xs) (suc i) = nth xs i
 
 -- the book n, if there is one
 abbrev pub book-of : ℕ → List Known → Option Known

@@ -1,6 +1,7 @@
 //! What a keeper shows of its books. A read changes nothing.
 ghost use mathlib.Core.Path.{_≡_};
-ghost use Rattle.books.specs.Keepers.{keeper-means, book-of, shown, nth, levels-shown};
+ghost use Rattle.books.specs.Keepers.{keeper-means, book-of, shown, levels-shown};
+ghost use Rattle.std.specs.shelf.Maps.{nth};
 use crate::book::Book;
 use crate::keeper::BookKeeper;
 use crate::level::Level;

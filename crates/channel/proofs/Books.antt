@@ -7,6 +7,7 @@ use native.Mathlib.Omega.{arith}
 use lib.Dec.{eqb}
 use lib.ListN.{length}
 use Rattle.std.proofs.shelf.Tests.{cond-both, eqb-true}
+use Rattle.std.specs.Options.{orOther}
 use Rattle.std.specs.declared.option.Option.{Option}
 use Rattle.std.specs.declared.option.Option.the-variants.{Some, None}
 use Rattle.wire.specs.Reading.{Msg, reset, unavailable, mapping, full, delta}
@@ -15,7 +16,7 @@ use Rattle.sink.specs.Views.{Moves}
 use Rattle.books.specs.Keepers.{Kept, keeper-step, book-of}
 use Rattle.channel.specs.Maps.{lookup, has, insert}
 use Rattle.channel.specs.Machine.{Call, made, offered, claimed, settled, restarted, History, Content, carries, declares, renews, nothing, Deed, begins, took, deed, Standing, idle, pass, passes, drain, joins, does, machine}
-use Rattle.channel.specs.Promise.{Allowed, Earned, joined, since, begun, start, or-else, first-data}
+use Rattle.channel.specs.Promise.{Allowed, Earned, joined, since, begun, start, first-data}
 use Rattle.channel.specs.States.{State}
 use Rattle.channel.specs.Follows.{led, Follows}
 use Rattle.channel.specs.Books.{Stream, sent, sent-all, stream-book, True, AllTrue, BooksRight}
@@ -32,7 +33,7 @@ next-book t s l i h =
     ap (λ k. sent-all t s k i) a ∙ ap (λ k. sent (t .message k) i (stream-book t s l i)) b
 
 -- the first data packet of a number is true
-first-carried : (t : Stream) (o : Option Msg) (n k : ℕ) (m x : Msg) → m ≡ t .message k → (o ≡ Some x → x ≡ t .message n) → or-else o (cond (eqb n k) (Some m) None) ≡ Some x → x ≡ t .message n
+first-carried : (t : Stream) (o : Option Msg) (n k : ℕ) (m x : Msg) → m ≡ t .message k → (o ≡ Some x → x ≡ t .message n) → orOther o (cond (eqb n k) (Some m) None) ≡ Some x → x ≡ t .message n
 first-carried t (Some y) n k m x p ih e = ih e
 first-carried t None n k m x p ih e = go (eqb n k) refl e
   where

@@ -7,6 +7,7 @@ use Prim.Native.Nat.{ℕ, zero, suc, _+_, _-_, _≤_, _<_}
 use native.Mathlib.Omega.{arith}
 use lib.Dec.{leb}
 use lib.ListN.{length, getD, set, replicate}
+use Rattle.std.specs.shelf.Maps.{nth}
 use Rattle.std.proofs.shelf.Tests.{cond-both, cases-lt, ne-eqb, eq-eqb, leb-true, both-ways}
 use Rattle.std.specs.declared.option.Option.{Option}
 use Rattle.std.specs.declared.option.Option.the-variants.{Some, None}
@@ -17,7 +18,7 @@ use Rattle.sink.specs.Events.{data-of, refresh-of}
 use Rattle.books.specs.declared.level.Level.{Level}
 use Rattle.books.specs.Levels.{price-of, before, changed}
 use Rattle.books.specs.Entering.{Known, unknown, emptied, touched-at, levels, put, put-all, limited, filled, full-points, delta-points}
-use Rattle.books.specs.Keepers.{Kept, nth, book-of, changed-at, forgotten, keeper-step}
+use Rattle.books.specs.Keepers.{Kept, book-of, changed-at, forgotten, keeper-step}
 use Rattle.channel.specs.Machine.{turn}
 use Rattle.channel.proofs.Plain.{never}
 use Rattle.channel.specs.Books.{Sides, no-levels, sides-of, whole-book, full-entered, delta-entered, sent}

@@ -11,12 +11,12 @@ use lib.Dec.{eqb, leb}
 use lib.ListN.{length}
 use Rattle.std.proofs.shelf.Ways.{tells}
 use Rattle.std.proofs.shelf.Tests.{cond-both, or-right, cases-lt, cases-eq, ne-eqb, eq-eqb, le-leb, lt-leb}
-use Rattle.std.specs.Options.{isSome}
+use Rattle.std.specs.Options.{isSome, orOther}
 use Rattle.wire.specs.Reading.{Msg}
 use Rattle.sink.specs.Events.{Event}
 use Rattle.channel.specs.Maps.{lookup, has, insert}
 use Rattle.channel.specs.Machine.{Call, made, offered, claimed, settled, restarted, History, Content, carries, declares, renews, nothing, Deed, begins, took, deed, Standing, idle, turn, pass, passes, drain, joins, does, machine}
-use Rattle.channel.specs.Promise.{Allowed, Earned, joined, since, begun, start, or-else, first-data, data-packets, covered, recent, due, InOrder, Reaches}
+use Rattle.channel.specs.Promise.{Allowed, Earned, joined, since, begun, start, first-data, data-packets, covered, recent, due, InOrder, Reaches}
 use Rattle.channel.proofs.Maps.{none-left, lookup-inserted, lookup-insert, lookup-remove, length-removed}
 use Rattle.channel.proofs.Numbers.{falling, falling-same, falling-more, reverse-falling}
 
@@ -84,15 +84,15 @@ abbrev pub Now : List Content → ℕ → Standing → Type 0
 Now cs s m = Stands (first-data cs) (covered cs) s m
 
 -- a data packet
-or-some : (o : Option Msg) (b : Bool) (x : Msg) → (b || isSome o) ≡ isSome (or-else o (cond b (Some x) None))
+or-some : (o : Option Msg) (b : Bool) (x : Msg) → (b || isSome o) ≡ isSome (orOther o (cond b (Some x) None))
 or-some None true x = refl
 or-some None false x = refl
 or-some (Some y) true x = refl
 or-some (Some y) false x = refl
 
-or-else-None : (o : Option Msg) → or-else o None ≡ o
-or-else-None None = refl
-or-else-None (Some x) = refl
+orOther-None : (o : Option Msg) → orOther o None ≡ o
+orOther-None None = refl
+orOther-None (Some x) = refl
 
 no-some : (o : Option Msg) → isSome o ≡ false → o ≡ None
 no-some None e = refl
@@ -101,12 +101,12 @@ no-some (Some x) e = grind arith
 module _ (cs : List Content) (s : ℕ) (m : Standing) (st : Now cs s m) where
   module _ (n : ℕ) (x : Msg) (new : m .last < n) (free : has n (m .waiting) ≡ false) where
     first-other : (k : ℕ) → (k ≡ n → ⊥) → first-data (carries n x ∷ cs) k ≡ first-data cs k
-    first-other k ne = ap (λ b. or-else (first-data cs k) (cond b (Some x) None)) (ne-eqb k n ne) ∙ or-else-None (first-data cs k)
+    first-other k ne = ap (λ b. orOther (first-data cs k) (cond b (Some x) None)) (ne-eqb k n ne) ∙ orOther-None (first-data cs k)
 
     first-here : first-data (carries n x ∷ cs) n ≡ Some x
     first-here =
         let a : first-data cs n ≡ None = sym (st .inv .waits n new) ∙ no-some (lookup n (m .waiting)) free in
-        ap (λ o. or-else o (cond (eqb n n) (Some x) None)) a ∙ ap (λ b. cond b (Some x) None) (eq-eqb n n refl)
+        ap (λ o. orOther o (cond (eqb n n) (Some x) None)) a ∙ ap (λ b. cond b (Some x) None) (eq-eqb n n refl)
 
     pub carries-waits : (k : ℕ) → m .last < k → lookup k (insert n x (m .waiting)) ≡ first-data (carries n x ∷ cs) k
     carries-waits k l = ⊎-elim
@@ -198,11 +198,11 @@ record Few (cs : List Content) : Type 0 where
   none : (n : ℕ) → first-data cs n ≡ None → data-packets cs n ≡ 0
   one : (n : ℕ) → data-packets cs n ≤ 1
 
-none-before : (o : Option Msg) (y : Option Msg) → or-else o y ≡ None → o ≡ None
+none-before : (o : Option Msg) (y : Option Msg) → orOther o y ≡ None → o ≡ None
 none-before None y e = refl
 none-before (Some x) y e = e
 
-none-now : (o : Option Msg) (b : Bool) (x : Msg) → or-else o (cond b (Some x) None) ≡ None → b ≡ false
+none-now : (o : Option Msg) (b : Bool) (x : Msg) → orOther o (cond b (Some x) None) ≡ None → b ≡ false
 none-now None true x e = let z : _≡_ {A = ℕ} 0 1 = cc in absurd (omega arith)
 none-now None false x e = refl
 none-now (Some y) b x e = let z : _≡_ {A = ℕ} 0 1 = cc in absurd (omega arith)

@@ -4,6 +4,8 @@ use mathlib.Core.Bool.{cond, _&&_, _||_}
 use Prim.Native.Nat.{ℕ, zero, suc, _+_, _-_}
 use lib.Dec.{eqb, leb, ltb}
 use lib.ListN.{length}
+use Rattle.std.specs.Options.{mapped}
+use Rattle.std.specs.Results.{errPart}
 use Rattle.std.specs.declared.option.Option.{Option}
 use Rattle.std.specs.declared.option.Option.the-variants.{Some, None}
 use Rattle.std.specs.declared.result.Result.{Result}
@@ -22,8 +24,7 @@ use Rattle.channel.specs.States.{Opened, State, at-last, either, on-ok, answer
 
 -- why a shelf does not take a packet
 abbrev pub shelf-fault : Result (Unit {0}) PutFault → Option OfferFault
-shelf-fault (Ok u) = None
-shelf-fault (Err f) = Some (Shelf f)
+shelf-fault r = mapped Shelf (errPart r)
 
 -- What stands against a packet where last is `l`. A data packet: its number is at most last or held; it is too far ahead; or it is early and
 -- the shelf refuses it.

@@ -4,6 +4,7 @@ use mathlib.Core.List.{List, [], _∷_, map, reverse}
 use mathlib.Core.Bool.{Bool, true, false, cond, _&&_, _||_}
 use Prim.Native.Nat.{ℕ, zero, suc, _+_, _-_, _≤_, _<_}
 use lib.Dec.{eqb, leb}
+use Rattle.std.specs.Options.{orOther}
 use Rattle.std.specs.declared.option.Option.{Option}
 use Rattle.std.specs.declared.option.Option.the-variants.{Some, None}
 use Rattle.wire.specs.Reading.{Msg}
@@ -55,15 +56,10 @@ abbrev pub start : History → ℕ
 start [] = 0
 start (c ∷ h) = begun (deed c) (start h)
 
--- the first of two, if there is one
-abbrev pub or-else : Option Msg → Option Msg → Option Msg
-or-else None y = y
-or-else (Some x) y = Some x
-
 -- the message of the first data packet of number `n`
 abbrev pub first-data : List Content → ℕ → Option Msg
 first-data [] n = None
-first-data (carries k m ∷ cs) n = or-else (first-data cs n) (cond (eqb n k) (Some m) None)
+first-data (carries k m ∷ cs) n = orOther (first-data cs n) (cond (eqb n k) (Some m) None)
 first-data (declares b e ∷ cs) n = first-data cs n
 first-data (renews k m ∷ cs) n = first-data cs n
 first-data (nothing ∷ cs) n = first-data cs n

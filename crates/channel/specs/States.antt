@@ -1,6 +1,8 @@
 -- The state of a channel, and small words for refusals.
 use mathlib.Core.List.{List}
 use Prim.Native.Nat.{ℕ}
+use Rattle.std.specs.Options.{mapped}
+use Rattle.std.specs.Results as results
 use Rattle.std.specs.declared.option.Option.{Option}
 use Rattle.std.specs.declared.option.Option.the-variants.{Some, None}
 use Rattle.std.specs.declared.result.Result.{Result}
@@ -25,8 +27,7 @@ pub record State (M : Type 0) : Type 0 where
 
 -- the last number of a channel that is open
 abbrev pub last-of : Option Opened → Option ℕ
-last-of None = None
-last-of (Some o) = Some (o .last)
+last-of x = mapped (λ o. o .last) x
 
 -- with another last number
 abbrev pub at-last : ℕ → Opened → Opened
@@ -44,10 +45,8 @@ on-ok (Err e) f s = s
 
 -- the answer of a call, from what was found where it is taken
 abbrev pub answer : {A B E : Type 0} → Result A E → (A → B) → Result B E
-answer (Ok a) f = Ok (f a)
-answer (Err e) f = Err e
+answer r f = results.mapped f (λ e. e) r
 
 -- a refusal that gives something back
 abbrev pub back : {A E X : Type 0} → X → Result A E → Result A (E × X)
-back x (Ok a) = Ok a
-back x (Err e) = Err (e, x)
+back x r = results.mapped (λ a. a) (λ e. (e, x)) r

@@ -5,17 +5,17 @@ use mathlib.Core.Logic.{inl, inr}
 use Prim.Native.Nat.{ℕ, zero, suc, _<_}
 use native.Mathlib.Omega.{arith}
 use borrow.Author.Needs.{needs}
-use Rattle.std.specs.Options.{Cases}
+use Rattle.std.specs.Options.{Cases, orOther}
 use Rattle.std.specs.declared.option.Option.{Option}
 use Rattle.std.specs.declared.option.Option.the-variants.{Some, None}
 use Rattle.std.proofs.shelf.Tests.{cases-lt}
-use Rattle.wire.specs.Bytes.{first, or-else}
+use Rattle.wire.specs.Bytes.{first}
 
 -- what an answer says
 abbrev pub Firsts : (ℕ → Bool) → ℕ → Option ℕ → Type 0
 Firsts f n r = Cases r ((k : ℕ) → k < n → f k ≡ false) (λ o. (o < n) × (f o ≡ true) × ((k : ℕ) → k < o → f k ≡ false))
 
-one-more : (f : ℕ → Bool) (n : ℕ) (r : Option ℕ) (b : Bool) → f n ≡ b → Firsts f n r → Firsts f (suc n) (or-else r (cond b (Some n) None))
+one-more : (f : ℕ → Bool) (n : ℕ) (r : Option ℕ) (b : Bool) → f n ≡ b → Firsts f n r → Firsts f (suc n) (orOther r (cond b (Some n) None))
 one-more f n (Some o) b e h = (omega arith, h .1, h .2)
 one-more f n None true e h = (omega arith, e, h)
 one-more f n None false e h = λ k l. search needs
