@@ -4,6 +4,7 @@ use mathlib.Core.Bool.{Bool, true, false, cond, _&&_}
 use Prim.Native.Nat.{ℕ, suc, _+_, _^_, _≤_, _<_, min, max}
 use lib.Dec.{ltb, leb, eqb}
 use lib.ListN.{length, drop}
+use Rattle.std.specs.Options.{mapped}
 use Rattle.std.specs.declared.option.Option.{Option}
 use Rattle.std.specs.declared.option.Option.the-variants.{Some, None}
 use Rattle.std.specs.declared.result.Result.{Result}
@@ -94,8 +95,7 @@ put-after s k p =
     s
 
 abbrev pub length-of : Option (List ℕ) → Option ℕ
-length-of None = None
-length-of (Some p) = Some (length p)
+length-of x = mapped length x
 
 -- a buffer with the packet in front, its rest as it was
 abbrev pub written : Option (List ℕ) → List ℕ → List ℕ

@@ -5,6 +5,7 @@ use Prim.Native.Nat.{ℕ, _+_, _-_, _%_}
 use lib.ListN.{length, getD, drop}
 use lib.Dec.{eqb, ltb}
 use denote.Ref.{now}
+use Rattle.std.specs.Results.{mapped}
 use Rattle.std.specs.declared.option.Option.{Option}
 use Rattle.std.specs.declared.option.Option.the-variants.{Some, None}
 use Rattle.std.specs.declared.result.Result.{Result}
@@ -48,12 +49,10 @@ abbrev pub packet-model : Packet → Pkt
 packet-model p = record { number = p .number; flag = p .flag; link = p .link; message = model (p .message) }
 
 abbrev pub told-message : Result Message ReadFault → Result Msg ReadFault
-told-message (Ok m) = Ok (model m)
-told-message (Err f) = Err f
+told-message r = mapped model (λ f. f) r
 
 abbrev pub told : Result Packet ReadFault → Result Pkt ReadFault
-told (Ok p) = Ok (packet-model p)
-told (Err f) = Err f
+told r = mapped packet-model (λ f. f) r
 
 -- what a packet is to a channel: types 35, 230 and 231 are data, but 230 with flag 5 or 6 is a refresh
 abbrev pub full-class : ℕ → Class
@@ -177,8 +176,7 @@ pub record Hdr : Type 0 where
   pub body : List ℕ
 
 abbrev pub told-header : Result Header ReadFault → Result Hdr ReadFault
-told-header (Ok h) = Ok (record { kind = h .kind; number = h .number; flag = h .flag; link = h .link; body = now (h .body) })
-told-header (Err f) = Err f
+told-header r = mapped (λ h. record { kind = h .kind; number = h .number; flag = h .flag; link = h .link; body = now (h .body) }) (λ f. f) r
 
 -- the header of a packet, or the first of its refusals
 abbrev pub header-in : List ℕ → Result Hdr ReadFault
