@@ -6,12 +6,13 @@ use lib.Dec.{eqb, leb, ltb}
 use lib.ListN.{length}
 use Rattle.std.specs.Options.{mapped}
 use Rattle.std.specs.Results.{errPart}
+use Rattle.std.specs.Results as results
 use Rattle.std.specs.declared.option.Option.{Option}
 use Rattle.std.specs.declared.option.Option.the-variants.{Some, None}
 use Rattle.std.specs.declared.result.Result.{Result}
 use Rattle.std.specs.declared.result.Result.the-variants.{Ok, Err}
 use Rattle.wire.specs.declared.fault.ReadFault.{ReadFault}
-use Rattle.wire.specs.Reading.{Msg, Pkt, reset, unavailable, mapping, full, delta, reading}
+use Rattle.wire.specs.Reading.{Msg, Pkt, reset, unavailable, mapping, full, delta, and-then, reading}
 use Rattle.shelf.specs.declared.PutFault.{PutFault}
 use Rattle.shelf.specs.Store.{Packets, Store, lookup, has, insert, remove, with-held, put-answer, written}
 use Rattle.sink.specs.Events.{Event, data-of, refresh-of}
@@ -60,8 +61,7 @@ against l s p q = against-message (q .message) l s p q
 
 -- a packet that is read goes on, and one that is not is refused with the reader's fault
 abbrev pub read-then : {A : Type 0} → Result Pkt ReadFault → (Pkt → Result A OfferFault) → Result A OfferFault
-read-then (Ok q) f = f q
-read-then (Err e) f = Err (Reader e)
+read-then r f = and-then (results.mapped (λ q. q) Reader r) f
 
 -- whether a packet is taken: the open channel and what the packet says, or the first of the refusals
 abbrev pub offer-verdict : {M : Type 0} → State M → List ℕ → List ℕ → Result (Opened × Pkt) OfferFault

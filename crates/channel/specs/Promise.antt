@@ -97,7 +97,7 @@ numbers n (suc k) = n ∷ numbers (n + 1) k
 abbrev pub from-to : ℕ → ℕ → List ℕ
 from-to a b = numbers a (b + 1 - a)
 
--- what a sink is due for a number: its message, or its loss
+-- what a sink is due for a number: its message, or its loss. It is said here apart from the machine's `turn`, so that a wrong turn breaks the order.
 abbrev pub due : ℕ → Option Msg → Event
 due n None = loss-of n
 due n (Some m) = data-of n m
