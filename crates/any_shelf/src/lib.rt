@@ -1,4 +1,6 @@
 //! One of two shelves, as a shelf: which one is chosen at run time.
+#![tactic(auto)]
+
 ghost use Rattle.std.specs.Prelude.{◌≡◌, is_ok, vec_len, MatchResult};
 ghost use Rattle.slot_shelf.specs.Slots.{empty_store};
 ghost use Rattle.chain_shelf.specs.Chain.{fresh};

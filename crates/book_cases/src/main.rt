@@ -1,4 +1,6 @@
 //! The proved keeper and tally beside plain maps: the same random events, every book and row compared after each.
+#![tactic(auto)]
+
 mod feed;
 mod plain;
 

@@ -1,4 +1,6 @@
 //! The book keeper: a sink that keeps the books of a channel in lent tables.
+#![tactic(auto)]
+
 mod book;
 mod buys;
 mod keeper;

@@ -10,6 +10,8 @@
 //! | a free one | 0-1 the next free record |
 //!
 //! Numbers rise from packet to packet. So the least number held is at the front, and a number above the last packet's is known to be absent.
+#![tactic(auto)]
+
 mod chain_shelf;
 mod packets;
 mod records;

@@ -1,4 +1,6 @@
 //! A channel: the packets of one stream, in order, each number once. Here is what its calls come to, and what is promised of any run of them.
+#![tactic(auto)]
+
 ghost use Rattle.channel.specs.Follows.{CallsFollow, MakingFollows};
 ghost use Rattle.channel.specs.Kept.{PromiseStands};
 ghost use Rattle.channel.specs.Runs.{RunsJoin, RunsStand};

@@ -1,4 +1,6 @@
 //! The console: what a line of a script asks, and the text that answers it.
+#![tactic(auto)]
+
 mod answers;
 mod command;
 mod hex;

@@ -1,4 +1,6 @@
 //! The handler's console: reads a script and prints the answer to each line.
+#![tactic(auto)]
+
 use anyhow::anyhow;
 use console::{HELP, answer};
 use std::env;

@@ -1,4 +1,6 @@
 //! What a channel hands over: the last number, the shelf of early packets and the sink, and how a packet moves them.
+#![tactic(auto)]
+
 mod fault;
 mod handover;
 mod offers;

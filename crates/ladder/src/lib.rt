@@ -1,4 +1,6 @@
 //! Ladders: rows of any kind that are kept in the order of their keys, in the first places of a lent table.
+#![tactic(auto)]
+
 ghost use Rattle.std.specs.Prelude.{◌≡◌, ◌<◌, ◌≤◌, Bool, true, false, ◌++◌, length, take, drop, MatchResult};
 ghost use Rattle.ladder.specs.Ladders.{place as place_of, entered, removed, Found, Holds, Settled};
 ghost use Rattle.ladder.specs.Laws.{Laws};

@@ -1,4 +1,6 @@
 //! The running order of a channel's calls: what a history of calls leads to, and what is promised of its order, its last number and its books.
+#![tactic(auto)]
+
 ghost use Rattle.order.specs.Machine.{WaitingRises};
 ghost use Rattle.order.specs.Promise.{OrderStands, LastStands, TakenOnce};
 ghost use Rattle.order.specs.Books.{BooksStand};

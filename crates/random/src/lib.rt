@@ -1,4 +1,6 @@
 //! Random choices from a fixed seed, for programs that run many cases.
+#![tactic(auto)]
+
 ghost use Rattle.std.specs.Prelude.{◌≡◌, ◌<◌, ◌%◌};
 ghost use Rattle.random.specs.Sources.{seeded, following, chosen, after_choice};
 

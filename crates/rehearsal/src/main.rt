@@ -1,4 +1,6 @@
 //! The handler's console: reads a script and prints the answer to each line.
+#![tactic(auto)]
+
 use any_shelf::AnyShelf;
 use anyhow::anyhow;
 use books::{Book, BookKeeper, Level, Tables};

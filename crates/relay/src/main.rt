@@ -1,4 +1,6 @@
 //! Two operators of one channel: the second goes on where the first stopped, and the promise is that of one run.
+#![tactic(auto)]
+
 ghost use Rattle.std.specs.Prelude.{◌≡◌, true, ◌++◌, is_ok};
 ghost use Rattle.operator.specs.Desks.{desk};
 ghost use Rattle.relay.specs.Relays.{Relayed};

@@ -1,4 +1,6 @@
 //! The text of an operator's replies, and of the reads of a channel's books and rows.
+#![tactic(auto)]
+
 mod calls;
 mod hex;
 mod reads;

@@ -1,4 +1,6 @@
 //! What a line of a script asks.
+#![tactic(auto)]
+
 mod command;
 mod fields;
 mod hex;

@@ -1,4 +1,6 @@
 //! A session of the console: what a setup takes, and a channel's calls and reads answered by text.
+#![tactic(auto)]
+
 mod acts;
 mod answers;
 mod reads;

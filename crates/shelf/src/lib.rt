@@ -1,4 +1,6 @@
 //! Shelves: packets that came early, kept by number until their turn.
+#![tactic(auto)]
+
 ghost use Rattle.std.specs.Prelude.{◌≡◌, []};
 ghost use Rattle.shelf.specs.Store.{Store, Lawful, has, above, used, priced, with_held, put_answer, put_after, take_answer, take_buffer, take_after, put_fault_number, take_fault_number};
 ghost use Rattle.shelf.specs.Laws.{HeldIsAMap, QuotasJoin, WidestQuota};

@@ -1,4 +1,6 @@
 //! The proved shelves beside a plain map: the same random calls, every answer compared.
+#![tactic(auto)]
+
 mod model;
 
 use anyhow::anyhow;

@@ -1,4 +1,6 @@
 //! Sinks: what takes in the events of a channel.
+#![tactic(auto)]
+
 ghost use Rattle.std.specs.Prelude.{◌≡◌};
 ghost use Rattle.wire.specs.Reading.{model};
 ghost use Rattle.sink.specs.Events.{Event, data_of, loss_of, refresh_of, restart_of};

@@ -1,4 +1,6 @@
 //! A shelf of sixteen slots, each with room for one packet.
+#![tactic(auto)]
+
 ghost use Rattle.std.specs.Prelude.{◌≡◌, ◌<◌, ◌≤◌, true, false, [], length, is_some, IfSome, nat_lt};
 ghost use Rattle.shelf.specs.Store.{has, insert, remove, lookup, right, used, with_held, length_of, written};
 ghost use Rattle.slot_shelf.specs.Slots.{slots_held, slots_sound, slot_store, empty_store, lesser, FreeAt, HeldAt};

@@ -1,4 +1,6 @@
 //! The tally: how much of each index was executed.
+#![tactic(auto)]
+
 mod row;
 mod tally;
 

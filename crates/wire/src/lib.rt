@@ -1,4 +1,6 @@
 //! The packets of an OpenBook Ultra channel: what each one says, or why it is refused, and the request for a retransmission.
+#![tactic(auto)]
+
 mod fault;
 mod fields;
 mod message;

@@ -1,4 +1,6 @@
 //! Worked figures of the feed, run.
+#![tactic(auto)]
+
 #[cfg(test)]
 mod tests {
     use std::test::Fail;
