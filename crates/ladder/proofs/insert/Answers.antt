@@ -9,5 +9,5 @@ returns-then-count-rows g c = (no_room c.args.rows.now c.args.used c.counted-cou
 pub returns : goal.returns
 returns g c =
     let m = g.R.Rank in
-    subst (λ ys. Holds (set ys c.args.at c.args.row) (c.counted-count.result + 1) (entered m.keyed m.before c.args.row (take c.args.used c.args.rows.now))) (sym c.copy-within.ensures.after)
+    subst (λ ys. Holds (set ys c.args.at c.args.row) (c.counted-count.result + 1) (entered m.keyed m.before c.args.row (take c.args.used c.args.rows.now))) (sym c.copy_within.ensures.after)
     (inserts c.args.rows.now c.args.used c.counted-count.result c.counted-count.ensures.within c.counted-count.ensures.same m.keyed m.before c.args.row c.args.at (omega arith) c.requires)

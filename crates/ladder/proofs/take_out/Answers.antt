@@ -6,5 +6,5 @@ use Rattle.ladder.proofs.take_out.Goals as goal
 pub returns : goal.returns
 returns g c =
     let zs = take c.args.used c.args.rows.now in
-    subst (λ ys. Holds ys (c.counted-count.result - 1) (take c.args.at zs ++ drop 1 (drop c.args.at zs))) (sym c.copy-within.ensures.after)
+    subst (λ ys. Holds ys (c.counted-count.result - 1) (take c.args.at zs ++ drop 1 (drop c.args.at zs))) (sym c.copy_within.ensures.after)
     (takes_out c.args.rows.now c.args.used c.counted-count.result c.counted-count.ensures.within c.counted-count.ensures.same c.args.at c.requires)

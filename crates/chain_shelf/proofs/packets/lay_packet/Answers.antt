@@ -29,11 +29,11 @@ fill-stop-requires c =
 pub returns : goal.returns
 returns c =
     let b = c.args.bytes.now in
-    let used : c.read.result + c.span-of.result ≡ in_use (mem b) + span 10 (length c.args.packet.now) = cc (c.read.ensures.is, c.span-of.ensures) in
+    let used : c.read.result + c.span_of.result ≡ in_use (mem b) + span 10 (length c.args.packet.now) = cc (c.read.ensures.is, c.span_of.ensures) in
     laid_in (mem b) (mem c.head.new.bytes) (mem c.fill-stop.new.bytes) (mem c.write.new.bytes) (mem c.lead.new.bytes) (mem c.write-2.new.bytes) (records b)
     c.args.prev c.args.number c.read-first.result c.fill-stop.result c.read-free.result c.args.packet.now c.read-first.ensures.is c.requires.apart c.requires.inside c.requires.out c.head.ensures.others
     (c.head.ensures.after ∙ c.read-after.ensures.is) c.head.ensures.number c.head.ensures.size
     c.fill-stop.ensures.laid c.fill-stop.ensures.last c.fill-stop.ensures.others
     c.read-free.ensures.is c.write.ensures.there c.write.ensures.others
-    c.lead.ensures.free (c.lead.ensures.last ∙ c.end-of-last.ensures.is ∙ ap (λ t. end t c.read-first.result (tail (mem b))) c.read-after.ensures.is) (c.lead.ensures.used ∙ used) c.lead.ensures.others
+    c.lead.ensures.free (c.lead.ensures.last ∙ c.end_of-last.ensures.is ∙ ap (λ t. end t c.read-first.result (tail (mem b))) c.read-after.ensures.is) (c.lead.ensures.used ∙ used) c.lead.ensures.others
     c.write-2.ensures.there c.write-2.ensures.others

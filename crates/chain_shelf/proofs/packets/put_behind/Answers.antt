@@ -6,8 +6,8 @@ use Rattle.chain_shelf.specs.Sounds.{opened, closed}
 use Rattle.chain_shelf.proofs.Stores.{right_least, right_most}
 use Rattle.chain_shelf.proofs.packets.put_behind.Goals as goal
 
-pub lay-packet-requires : goal.lay-packet-requires
-lay-packet-requires c =
+pub lay_packet-requires : goal.lay_packet-requires
+lay_packet-requires c =
     let b = c.args.bytes.now in
     let s = opened b c.requires.kept in
     record {
@@ -22,7 +22,7 @@ lay-packet-requires c =
 pub returns : goal.returns
 returns c =
     let b = c.args.bytes.now in
-    let d = c.lay-packet.new.bytes in
-    let li = subst (λ p. LaidIn (mem b) (mem d) p c.args.number c.args.packet.now) c.requires.prev.is c.lay-packet.ensures in
-    let z = put_sound b d c.args.number c.args.packet.now (opened b c.requires.kept) c.lay-packet.auto.bytes (right_least (length c.args.packet.now) c.requires.proper) (right_most (length c.args.packet.now) c.requires.proper) c.requires.absent (omega arith) c.requires.room li in
-    record { kept = closed b d c.requires.kept.0 c.lay-packet.auto.bytes z.0; held = z.1 }
+    let d = c.lay_packet.new.bytes in
+    let li = subst (λ p. LaidIn (mem b) (mem d) p c.args.number c.args.packet.now) c.requires.prev.is c.lay_packet.ensures in
+    let z = put_sound b d c.args.number c.args.packet.now (opened b c.requires.kept) c.lay_packet.auto.bytes (right_least (length c.args.packet.now) c.requires.proper) (right_most (length c.args.packet.now) c.requires.proper) c.requires.absent (omega arith) c.requires.room li in
+    record { kept = closed b d c.requires.kept.0 c.lay_packet.auto.bytes z.0; held = z.1 }

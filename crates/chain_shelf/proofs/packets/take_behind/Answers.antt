@@ -16,8 +16,8 @@ read-size-requires c =
     let t = there c.args.bytes.now c.args.number c.args.prev c.read-first.result c.requires.kept c.requires.prev c.read-first.ensures.is c.requires.present in
     (omega arith, t.found.within)
 
-pub slice-bounds-copy-end : goal.slice-bounds-copy-end
-slice-bounds-copy-end c =
+pub slice_bounds-copy-end : goal.slice_bounds-copy-end
+slice_bounds-copy-end c =
     let t = there c.args.bytes.now c.args.number c.args.prev c.read-first.result c.requires.kept c.requires.prev c.read-first.ensures.is c.requires.present in
     let l : c.read-size.result ≤ 1500 = omega (arith, t.most, c.read-size.ensures.is) in
     search rules

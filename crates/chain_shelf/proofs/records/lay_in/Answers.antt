@@ -6,7 +6,7 @@ use Rattle.chain_shelf.proofs.records.lay_in.Goals as goal
 
 pub returns : goal.returns
 returns c =
-    let e = c.copy-from-slice.ensures.after in
+    let e = c.copy_from_slice.ensures.after in
     record {
       there = cut_from (mem _) c.args.index c.args.offset c.args.part.now (λ k l. grind (arith, places));
       others = λ s q l h. grind (arith, places);

@@ -14,8 +14,8 @@ loop-at-init c =
       ap (λ t. last 0 (under (mem b) c.args.number (trail (next (mem b)) (records b) t))) e,
     )
 
-pub number-at-requires : goal.number-at-requires
-number-at-requires c =
+pub number_at-requires : goal.number_at-requires
+number_at-requires c =
     let b = c.args.bytes.now in
     (left_step (mem b) (records b) c.loop-at.prev c.loop-at.at c.loop-at-test.true c.loop-at.invariant.1).0
 
@@ -40,7 +40,7 @@ loop-at-preserved c =
     let T = trail (next (mem b)) (records b) in
     let s = left_step (mem b) (records b) p a c.loop-at-test.true c.loop-at.invariant.1 in
     let e : c.read-at-in-loop-at.result ≡ next (mem b) a = c.read-at-in-loop-at.ensures.is in
-    let n = c.number-at.ensures.is in (
+    let n = c.number_at.ensures.is in (
       s.0,
       subst (Left (mem b) (records b) a) (sym e) s.1,
       ap (λ t. last a (under (mem b) k (T t))) e
@@ -48,14 +48,14 @@ loop-at-preserved c =
           ∙ c.loop-at.invariant.2,
     )
 
-pub returns-else-number-at-number : goal.returns-else-number-at-number
-returns-else-number-at-number c =
+pub returns-else-number_at-number : goal.returns-else-number_at-number
+returns-else-number_at-number c =
     let b = c.args.bytes.now in
     let p = c.loop-at.prev in
     let a = c.loop-at.at in
     let k = c.args.number in
     let s = left_step (mem b) (records b) p a c.loop-at-test.true c.loop-at.invariant.1 in
-    let n = c.number-at.ensures.is in
+    let n = c.number_at.ensures.is in
     let u = ap (under (mem b) k) s.2 ∙ under_none (mem b) k a (trail (next (mem b)) (records b) (next (mem b) a)) (omega arith) in
     record { is = sym (ap (last p) u) ∙ c.loop-at.invariant.2; within = c.loop-at.invariant.0 }
 

@@ -3,15 +3,15 @@ use Rattle.slot_shelf.specs.Slots.{slots_held, slots_sound, no_slot}
 use Rattle.slot_shelf.specs.Shelved.{held_filled, sound_filled}
 use Rattle.slot_shelf.proofs.SlotShelf.keep.Goals as goal
 
-pub invariant-of-self : goal.invariant-of-self
-invariant-of-self c =
+pub invariant_of-self : goal.invariant_of-self
+invariant_of-self c =
     let ss = c.args.self.now.slots.items in
     let i = c.args.i in
     let k = c.args.number in
     let w : k < 2 ^ 32 = search rules in (
-      ap length c.fill-at.ensures ∙ length-set ss i _ ∙ c.args.self.now.sixteen,
+      ap length c.fill_at.ensures ∙ length-set ss i _ ∙ c.args.self.now.sixteen,
       (
-        ap slots_sound c.fill-at.ensures
+        ap slots_sound c.fill_at.ensures
             ∙ sound_filled ss i k c.args.packet.now (get_or ss i no_slot) c.requires.free.0 c.requires.free.1 c.requires.absent c.requires.sized w c.args.self.now.sound,
         tt,
       ),
@@ -21,5 +21,5 @@ pub returns : goal.returns
 returns c =
     let ss = c.args.self.now.slots.items in
     let i = c.args.i in
-    ap slots_held c.fill-at.ensures
+    ap slots_held c.fill_at.ensures
     ∙ held_filled ss i c.args.number c.args.packet.now (get_or ss i no_slot) c.requires.free.0 c.requires.free.1 c.requires.absent

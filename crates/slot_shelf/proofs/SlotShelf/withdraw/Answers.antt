@@ -6,8 +6,8 @@ use Rattle.slot_shelf.specs.Slots.{slots_held, slots_sound, emptied, no_slot}
 use Rattle.slot_shelf.specs.Shelved.{right_at, lookup_at, held_emptied, sound_emptied}
 use Rattle.slot_shelf.proofs.SlotShelf.withdraw.Goals as goal
 
-pub empty-at-requires : goal.empty-at-requires
-empty-at-requires c =
+pub empty_at-requires : goal.empty_at-requires
+empty_at-requires c =
     let ss = c.args.self.now.slots.items in
     let f = c.in-Some.ensures.found in
     let l = f.0 in
@@ -16,12 +16,12 @@ empty-at-requires c =
     let m : (get_or ss c.in-Some.i no_slot).len ≤ 1500 = grind (arith, nat_tests) in
     search rules
 
-pub invariant-of-self : goal.invariant-of-self
-invariant-of-self c =
+pub invariant_of-self : goal.invariant_of-self
+invariant_of-self c =
     let ss = c.args.self.now.slots.items in
     let i = c.in-Some.i in (
-      ap length c.empty-at.ensures.after ∙ length-set ss i _ ∙ c.args.self.now.sixteen,
-      (ap slots_sound c.empty-at.ensures.after ∙ sound_emptied ss i (emptied (get_or ss i no_slot)) refl c.args.self.now.sound, tt),
+      ap length c.empty_at.ensures.after ∙ length-set ss i _ ∙ c.args.self.now.sixteen,
+      (ap slots_sound c.empty_at.ensures.after ∙ sound_emptied ss i (emptied (get_or ss i no_slot)) refl c.args.self.now.sound, tt),
     )
 
 pub returns-in-Some : goal.returns-in-Some
@@ -32,9 +32,9 @@ returns-in-Some c =
     let f = c.in-Some.ensures.found in
     let e = lookup_at ss i k f.0 f.1 c.args.self.now.sound in
     record {
-      answer = ap Some c.empty-at.ensures.answer ∙ ap length_of (sym e);
-      buffer = c.empty-at.ensures.buffer ∙ ap (λ o. written o c.args.buffer.now) (sym e);
-      after = ap slots_held c.empty-at.ensures.after ∙ held_emptied ss i k (emptied (get_or ss i no_slot)) f.0 f.1 refl c.args.self.now.sound;
+      answer = ap Some c.empty_at.ensures.answer ∙ ap length_of (sym e);
+      buffer = c.empty_at.ensures.buffer ∙ ap (λ o. written o c.args.buffer.now) (sym e);
+      after = ap slots_held c.empty_at.ensures.after ∙ held_emptied ss i k (emptied (get_or ss i no_slot)) f.0 f.1 refl c.args.self.now.sound;
     }
 
 pub returns-in-None : goal.returns-in-None

@@ -4,8 +4,8 @@ use Rattle.slot_shelf.specs.Slots.{slot_store}
 use Rattle.slot_shelf.specs.Shelved.{sound_emptied, held_none}
 use Rattle.slot_shelf.proofs.SlotShelfShelf.clear.Goals as goal
 
-pub invariant-of-self : goal.invariant-of-self
-invariant-of-self c = (
+pub invariant_of-self : goal.invariant_of-self
+invariant_of-self c = (
   length-set c.loop-i.self.slots.items c.loop-i.i _ ∙ c.loop-i.self.sixteen,
   (sound_emptied c.loop-i.self.slots.items c.loop-i.i _ refl c.loop-i.self.sound, tt),
 )

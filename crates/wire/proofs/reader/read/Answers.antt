@@ -4,14 +4,14 @@ use Rattle.wire.specs.Reading.{told, reading}
 use Rattle.wire.proofs.Judging.{told_judged}
 use Rattle.wire.proofs.reader.read.Goals as goal
 
-pub returns-in-err-header : goal.returns-in-err-header
-returns-in-err-header c =
-    let e : told c.from-residual.result ≡ reading c.args.packet.now = search rules in
+pub returns-in_err-header : goal.returns-in_err-header
+returns-in_err-header c =
+    let e : told c.from_residual.result ≡ reading c.args.packet.now = search rules in
     record { reads = e; judged = told_judged _ _ e }
 
-pub returns-in-err-message : goal.returns-in-err-message
-returns-in-err-message c =
-    let e : told c.from-residual-in-err-message.result ≡ reading c.args.packet.now = search rules in
+pub returns-in_err-message : goal.returns-in_err-message
+returns-in_err-message c =
+    let e : told c.from_residual-in_err-message.result ≡ reading c.args.packet.now = search rules in
     record { reads = e; judged = told_judged _ _ e }
 
 pub returns : goal.returns

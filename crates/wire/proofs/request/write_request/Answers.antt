@@ -9,7 +9,7 @@ returns c =
     let s = c.args.source.now in
     let r : source_right s ≡ true = search rules in
     let e = laid b _ _ s c.args.time c.args.begin c.args.end (omega arith) r
-    (c.copy-from-slice.ensures.after ∙ c.unsigned-request-message.ensures) c.copy-from-slice-2.ensures.after in
+    (c.copy_from_slice.ensures.after ∙ c.unsigned_request-message.ensures) c.copy_from_slice-2.ensures.after in
     record {
       answer = search rules;
       after = e;

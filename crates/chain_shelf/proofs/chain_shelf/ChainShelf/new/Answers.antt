@@ -4,17 +4,17 @@ use Rattle.chain_shelf.specs.Records.{span}
 use Rattle.chain_shelf.specs.Chain.{Kept, store}
 use Rattle.chain_shelf.proofs.chain_shelf.ChainShelf.new.Goals as goal
 
-pub invariant-of-result : goal.invariant-of-result
-invariant-of-result c =
-    let w = c.free-all.new.bytes in
-    let v = c.into-bytes-region.result in
-    (subst Kept (sym (take_at w (drop (length w) v.items) v.len (c.free-all.auto.bytes ∙ c.deref-mut.ensures.len))) c.free-all.ensures.kept, tt)
+pub invariant_of-result : goal.invariant_of-result
+invariant_of-result c =
+    let w = c.free_all.new.bytes in
+    let v = c.into_bytes-region.result in
+    (subst Kept (sym (take_at w (drop (length w) v.items) v.len (c.free_all.auto.bytes ∙ c.deref_mut.ensures.len))) c.free_all.ensures.kept, tt)
 
 pub returns : goal.returns
 returns c =
-    let w = c.free-all.new.bytes in
-    let v = c.into-bytes-region.result in
-    let n : length w ≡ v.len = c.free-all.auto.bytes ∙ c.deref-mut.ensures.len in
-    let m = n ∙ ap vec_len c.into-bytes-region.ensures in
-    let h = c.free-all.ensures.held in
+    let w = c.free_all.new.bytes in
+    let v = c.into_bytes-region.result in
+    let n : length w ≡ v.len = c.free_all.auto.bytes ∙ c.deref_mut.ensures.len in
+    let m = n ∙ ap vec_len c.into_bytes-region.ensures in
+    let h = c.free_all.ensures.held in
     ap store (take_at w (drop (length w) v.items) v.len n) ∙ (λ i. record { held = h i; total = m i / 64 - 1; price = span 10 })
