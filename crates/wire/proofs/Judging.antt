@@ -1,5 +1,5 @@
 -- Every reading is judged right.
-use Rattle.std.proofs.Common.{◌≡◌, ℕ, ◌+◌, ◌-◌, ◌%◌, ◌<◌, ◌≤◌, Bool, true, false, cond, not, ◌&&◌, ◌||◌, eqb, ltb, leb, List, length, get_or, drop, Some, None, Ok, Err, Option, Result, sym, refl, ap, ◌∙◌, subst, inl, inr, arith, length-drop}
+use Rattle.std.proofs.Common.{◌≡◌, ℕ, ◌+◌, ◌-◌, ◌%◌, ◌<◌, ◌≤◌, Bool, true, false, not, ◌||◌, eqb, ltb, List, length, get_or, drop, Some, None, Ok, Err, Option, Result, sym, refl, ◌∙◌, subst, inl, inr, arith, length-drop}
 use Rattle.std.proofs.lemmas.Bool.{cond_both, eqb-true, eqb-false, not-true, not-false, both_ways, cases_lt, or_cases, ltb-true}
 use Rattle.std.proofs.lemmas.List.{get_or-drop, drop-drop}
 use Rattle.std.proofs.lemmas.Bool.Decides.{nat_tests}
@@ -9,8 +9,8 @@ use Rattle.wire.specs.declared.reader.Kind.{Kind}
 use Rattle.wire.specs.declared.reader.Kind.TheVariants as kind
 use Rattle.wire.specs.declared.message.Packet.{Packet}
 use Rattle.wire.specs.Bytes.{be16, be32}
-use Rattle.wire.specs.Reading.{Msg, Pkt, Hdr, told, and_then, kind_from, allowed, header_in, body_in, reading, reset_in, unavailable_in, mapping_in, full_in, delta_in, unless, wrong_in_full, wrong_in_delta, side, reason}
-use Rattle.wire.specs.Laws.{Long, Framed, Ours, code, Untyped, flag_right, Headed, fits, wrong_at, RightBelow, message_of, Right, Faulty, Cause, Judged}
+use Rattle.wire.specs.Reading.{Msg, Pkt, Hdr, told, and_then, kind_from, allowed, header_in, body_in, reading, reset_in, unavailable_in, mapping_in, full_in, delta_in, unless, wrong_in_full, wrong_in_delta}
+use Rattle.wire.specs.Laws.{Long, Framed, Ours, code, Untyped, flag_right, Headed, fits, wrong_at, RightBelow, message_of, Faulty, Cause, Judged}
 use Rattle.wire.proofs.Firsts.{Firsts, first_is_first}
 
 then_both : {A B E : Type 0} (P : Result A E → Type 0) (Q : Result B E → Type 0) (f : A → Result B E) (r : Result A E) →

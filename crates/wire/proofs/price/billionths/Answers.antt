@@ -1,4 +1,4 @@
-use Rattle.std.proofs.Common.{◌≡◌, sym, ◌∙◌, rules}
+use Rattle.std.proofs.Common.{◌∙◌, rules}
 use Rattle.wire.proofs.Rescaled.{price_rescaled}
 use Rattle.wire.proofs.price.billionths.Goals as goal
 

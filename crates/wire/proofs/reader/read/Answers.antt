@@ -16,7 +16,7 @@ returns-in_err-message c =
 
 pub returns : goal.returns
 returns c =
-    let h = c.in-ok-header.header in
-    let q : Packet = record { number = h.number; flag = h.flag; link = h.link; message = c.in-ok-message.message } in
+    let h = c.in_ok-header.header in
+    let q : Packet = record { number = h.number; flag = h.flag; link = h.link; message = c.in_ok-message.message } in
     let e : told (Ok q) ≡ reading c.args.packet.now = search rules in
     record { reads = e; judged = told_judged c.args.packet.now (Ok q) e }
