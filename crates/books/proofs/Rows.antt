@@ -1,8 +1,7 @@
 -- A book among the others.
-use Rattle.std.proofs.Common.{◌≡◌, ℕ, zero, suc, ◌+◌, ◌-◌, ◌*◌, ◌/◌, ◌<◌, ◌≤◌, min, List, [], ◌∷◌, length, get_or, take, drop, set, replicate, Some, None, sym, refl, ap, ◌∙◌, div-lt_iff_lt-mul, le-div_iff_mul-le, div-mul-le_self, arith, rules}
+use Rattle.std.proofs.Common.{◌≡◌, ℕ, zero, suc, ◌+◌, ◌-◌, ◌*◌, ◌/◌, ◌<◌, ◌≤◌, min, List, [], ◌∷◌, length, get_or, take, drop, set, replicate, Some, sym, refl, ap, ◌∙◌, div-lt_iff_lt-mul, le-div_iff_mul-le, div-mul-le_self, arith, rules}
 use native.Mathlib.Nat.{div-zero}
 use borrow.Rule.Slice.PartMut.{put_mid}
-use Rattle.std.specs.List.{slice_get}
 use Rattle.std.proofs.lemmas.Option.{slice_get-get_or, slice_get_past}
 use Rattle.std.proofs.lemmas.List.{same_lists, places, set_past, length-take, length-take-le, length-drop}
 use Rattle.books.specs.declared.level.Level.{Level}

@@ -1,6 +1,6 @@
 //! The order of the buy side.
 ghost use Rattle.std.specs.Prelude.{nat_lt};
-ghost use Rattle.std.proofs.Common.{rules};
+ghost use Rattle.ladder.proofs.Numbers.{rising_irreflexive, rising_transitive, rising_total};
 
 use crate::level::Level;
 use ladder::Rank;
@@ -18,11 +18,11 @@ impl Rank for Buys {
 
     ghost before = { λ a b. nat_lt b a };
 
-    ghost irreflexive = { Prim.search rules };
+    ghost irreflexive = { rising_irreflexive };
 
-    ghost transitive = { Prim.search rules };
+    ghost transitive = { λ a b c p q. rising_transitive c b a q p };
 
-    ghost total = { Prim.search rules };
+    ghost total = { λ a b p q. rising_total a b q p };
 
     fn key(row: &Level) -> u64 {
         row.price

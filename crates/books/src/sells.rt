@@ -1,6 +1,6 @@
 //! The order of the sell side.
 ghost use Rattle.std.specs.Prelude.{nat_lt};
-ghost use Rattle.std.proofs.Common.{rules};
+ghost use Rattle.ladder.proofs.Numbers.{rising_irreflexive, rising_transitive, rising_total};
 
 use crate::level::Level;
 use ladder::Rank;
@@ -18,11 +18,11 @@ impl Rank for Sells {
 
     ghost before = { λ a b. nat_lt a b };
 
-    ghost irreflexive = { Prim.search rules };
+    ghost irreflexive = { rising_irreflexive };
 
-    ghost transitive = { Prim.search rules };
+    ghost transitive = { rising_transitive };
 
-    ghost total = { Prim.search rules };
+    ghost total = { rising_total };
 
     fn key(row: &Level) -> u64 {
         row.price

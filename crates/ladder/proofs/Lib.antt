@@ -3,3 +3,4 @@ pub mod Places
 pub mod Orders
 pub mod Lookups
 pub mod Edits
+pub mod Numbers

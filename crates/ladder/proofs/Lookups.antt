@@ -1,7 +1,7 @@
 -- What is found of each key after a row is entered or removed.
 use Rattle.std.proofs.Common.{◌≡◌, suc, Bool, true, false, cond, List, [], ◌∷◌, drop, Some, None, sym, refl, ap, ◌∙◌, ⊎_elim}
 use Rattle.std.proofs.lemmas.Bool.{cond_both, both_ways, cases_Bool}
-use Rattle.ladder.specs.Ladders.{place, fronted, looked, entered, removed}
+use Rattle.ladder.specs.Ladders.{fronted, looked, entered, removed}
 use Rattle.ladder.specs.Laws.{First, Sorted, placed, inserted, without, kept, Laws}
 use Rattle.ladder.proofs.Orders.{place_is, entered_is, removed_is, entered_sorted, removed_sorted}
 

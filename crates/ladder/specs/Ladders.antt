@@ -1,6 +1,6 @@
 -- Ladders: rows that are looked up by halves. `key` gives a row's key, and `before` says which of two keys comes first.
 -- All of it is defined for any rows, in order or not.
-use Rattle.std.specs.Prelude.{◌≡◌, ℕ, zero, suc, ◌+◌, ◌-◌, ◌/◌, ◌<◌, ◌≤◌, Bool, true, false, cond, not, List, [], ◌∷◌, ◌++◌, map, length, take, drop, Some, None, Option, nat_lt, slice_index_or}
+use Rattle.std.specs.Prelude.{◌≡◌, ℕ, zero, suc, ◌+◌, ◌-◌, ◌/◌, ◌<◌, ◌≤◌, Bool, false, cond, not, List, [], ◌∷◌, ◌++◌, map, length, take, drop, Some, None, Option, nat_lt, slice_index_or}
 
 -- the place between low and high where the flags turn from true to false, looked for by halves, in at most n looks
 abbrev pub halved : ℕ → List Bool → ℕ → ℕ → ℕ

@@ -34,7 +34,7 @@ pub trait Rank {
 // The place of a key among the rows, looked for by halves.
 fn place<R: Rank>(rows: &[R::Row], key: R::Key) -> usize
     ensures within { result ≤ length rows.now }
-    ensures is { result ≡ place_of keyed before key rows.now }
+    ensures is { result ≡ place_of R.keyed R.before key rows.now }
 {
     let mut low = 0;
     let mut high = rows.len();
@@ -59,8 +59,8 @@ fn counted<T>(rows: &[T], used: usize) -> usize
 
 // Whether the row at the place of a key has that key.
 fn holds<R: Rank>(rows: &[R::Row], at: usize, key: R::Key) -> bool
-    requires { (at ≡ place_of keyed before key rows.now) × (at ≤ length rows.now) }
-    ensures { Found keyed before key rows.now result at }
+    requires { (at ≡ place_of R.keyed R.before key rows.now) × (at ≤ length rows.now) }
+    ensures { Found R.keyed R.before key rows.now result at }
 {
     if at < rows.len() {
         !R::precedes(key, R::key(&rows[at]))
@@ -71,7 +71,7 @@ fn holds<R: Rank>(rows: &[R::Row], at: usize, key: R::Key) -> bool
 
 /// Where the row with a key is among the first `used` rows, or else where one would be added.
 pub fn find<R: Rank>(rows: &[R::Row], used: usize, key: R::Key) -> Result<usize, usize>
-    ensures { MatchResult result (λ at. Found keyed before key (take used rows.now) true at) (λ at. Found keyed before key (take used rows.now) false at) }
+    ensures { MatchResult result (λ at. Found R.keyed R.before key (take used rows.now) true at) (λ at. Found R.keyed R.before key (take used rows.now) false at) }
 {
     let count = counted(rows, used);
     let at = place::<R>(&rows[0..count], key);
@@ -84,8 +84,8 @@ pub fn find<R: Rank>(rows: &[R::Row], used: usize, key: R::Key) -> Result<usize,
 
 // Puts a row in the place of another.
 fn replace<R: Rank>(rows: &mut [R::Row], used: usize, at: usize, row: R::Row) -> usize
-    requires { Found keyed before (keyed row) (take used rows.old) true at }
-    ensures { Holds rows.new result (entered keyed before row (take used rows.old)) }
+    requires { Found R.keyed R.before (R.keyed row) (take used rows.old) true at }
+    ensures { Holds rows.new result (entered R.keyed R.before row (take used rows.old)) }
 {
     let count = counted(rows, used);
     rows[at] = row;
@@ -94,8 +94,8 @@ fn replace<R: Rank>(rows: &mut [R::Row], used: usize, at: usize, row: R::Row) ->
 
 // Adds a row at a place, and moves those from there on one place up.
 fn insert<R: Rank>(rows: &mut [R::Row], used: usize, at: usize, row: R::Row) -> Option<usize>
-    requires { Found keyed before (keyed row) (take used rows.old) false at }
-    ensures { Settled rows.old rows.new (entered keyed before row (take used rows.old)) result }
+    requires { Found R.keyed R.before (R.keyed row) (take used rows.old) false at }
+    ensures { Settled rows.old rows.new (entered R.keyed R.before row (take used rows.old)) result }
 {
     let count = counted(rows, used);
     if count == rows.len() {
@@ -109,7 +109,7 @@ fn insert<R: Rank>(rows: &mut [R::Row], used: usize, at: usize, row: R::Row) -> 
 /// Puts a row in the place of the one with its key among the first `used` rows, or else adds it.
 /// Gives how many rows are used then, or `None`, with all as it was, where no place is free.
 pub fn enter<R: Rank>(rows: &mut [R::Row], used: usize, row: R::Row) -> Option<usize>
-    ensures { Settled rows.old rows.new (entered keyed before row (take used rows.old)) result }
+    ensures { Settled rows.old rows.new (entered R.keyed R.before row (take used rows.old)) result }
 {
     match find::<R>(rows, used, R::key(&row)) {
         Ok(at) => Some(replace::<R>(rows, used, at, row)),
@@ -129,7 +129,7 @@ fn take_out<R: Rank>(rows: &mut [R::Row], used: usize, at: usize) -> usize
 
 /// Takes the row with a key out of the first `used` rows, if there is one. Gives how many rows are used then.
 pub fn remove<R: Rank>(rows: &mut [R::Row], used: usize, key: R::Key) -> usize
-    ensures { Holds rows.new result (removed keyed before key (take used rows.old)) }
+    ensures { Holds rows.new result (removed R.keyed R.before key (take used rows.old)) }
 {
     match find::<R>(rows, used, key) {
         Ok(at) => take_out::<R>(rows, used, at),
@@ -139,5 +139,5 @@ pub fn remove<R: Rank>(rows: &mut [R::Row], used: usize, key: R::Key) -> usize
 
 /// What holds of a ladder in order, for any rank: a theorem.
 pub fn ordered<R: Rank>()
-    ensures { Laws keyed before }
+    ensures { Laws R.keyed R.before }
 {}

@@ -1,19 +1,18 @@
 -- A tally stays in order, and an addition changes one volume.
-use Rattle.std.proofs.Common.{◌≡◌, ℕ, zero, suc, ◌+◌, ◌/◌, ◌≤◌, true, false, leb, List, length, Some, None, Option, unwrap_or, sym, refl, ap, ◌∙◌}
+use Rattle.std.proofs.Common.{◌≡◌, ℕ, zero, suc, ◌+◌, ◌/◌, leb, List, length, Some, None, Option, unwrap_or, refl, ap, ◌∙◌}
 use Rattle.std.proofs.lemmas.Bool.{cond_both, leb-true, le-leb, cond-true}
 use Rattle.std.specs.Option.{option_map}
 use Rattle.ladder.specs.Laws.{Laws}
-use Rattle.ladder.specs.Ladders.{looked}
 use Rattle.wire.specs.declared.point.DeltaPoint.{DeltaPoint}
 use Rattle.wire.specs.declared.point.Reason.{Reason}
 use Rattle.wire.specs.declared.point.Reason.TheVariants.{Order, Cancel, Execution, Multiple}
 use Rattle.wire.specs.Points.{delta_point}
 use Rattle.wire.specs.Reading.{Msg, reset, unavailable, mapping, full, delta}
-use Rattle.sink.specs.Events.{Event, data_of, loss_of, refresh_of, restart_of}
+use Rattle.sink.specs.Events.{data_of, loss_of, refresh_of, restart_of}
 use Rattle.tally.specs.declared.row.Row.{Row}
 use Rattle.tally.specs.Rows.{row_key, row_before}
-use Rattle.tally.specs.Tallies.{Counts, executed_of, capped64, summed, added, by_reason, maybe_added, points_added, told, step}
-use Rattle.tally.specs.Laws.{InOrder, KeepsOrder, Adds, AddsToOne}
+use Rattle.tally.specs.Tallies.{Counts, executed_of, capped64, summed, added, by_reason, maybe_added, points_added, told}
+use Rattle.tally.specs.Laws.{InOrder, KeepsOrder, AddsToOne}
 
 module _ (laws : Laws row_key row_before) where
   -- the row that an addition enters

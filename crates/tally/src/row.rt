@@ -1,6 +1,6 @@
 //! The rows of a tally.
 ghost use Rattle.tally.specs.Rows.{row_key, row_before};
-ghost use Rattle.std.proofs.Common.{rules};
+ghost use Rattle.ladder.proofs.Numbers.{rising_irreflexive, rising_transitive, rising_total};
 
 use ladder::Rank;
 
@@ -23,11 +23,11 @@ impl Rank for ByIndex {
 
     ghost before = { row_before };
 
-    ghost irreflexive = { Prim.search rules };
+    ghost irreflexive = { rising_irreflexive };
 
-    ghost transitive = { Prim.search rules };
+    ghost transitive = { rising_transitive };
 
-    ghost total = { Prim.search rules };
+    ghost total = { rising_total };
 
     fn key(row: &Row) -> u16 {
         row.index

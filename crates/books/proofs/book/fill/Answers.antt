@@ -25,10 +25,10 @@ loop-i-preserved c =
     (c.put.ensures ∙ ap (λ q. limited c.args.depth q.side q.level (known l.book l.buys l.sells)) same)
     ∙ l.invariant
 
-pub returns-in-default : goal.returns-in-default
-returns-in-default c =
+pub returns-in_default : goal.returns-in_default
+returns-in_default c =
     let lt : c.loop-i.i < length (points_of c.args.points) = omega (arith, c.count-i-end.ensures) in
-    absurd (c.in-default.not-Some _ (c.get.ensures ∙ point_is c.args.points c.loop-i.i nil lt))
+    absurd (c.in_default.not-Some _ (c.get.ensures ∙ point_is c.args.points c.loop-i.i nil lt))
 
 pub returns : goal.returns
 returns c = sym (ends c.args.depth (points_of c.args.points) c.loop-i.i _ (omega (arith, c.count-i-end.ensures))) ∙ c.loop-i.invariant

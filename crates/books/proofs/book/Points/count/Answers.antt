@@ -9,10 +9,10 @@ pub returns-in-Full : goal.returns-in-Full
 returns-in-Full c =
     let bs = c.in-Full.bytes.now in
     let h = c.in-Full.is in
-    c.full-count.ensures ∙ sym (ap (λ p. length (points_of p)) h ∙ length-map-range_with_len (λ i. named c.in-Full.scale (full_at bs (i * 12))) 0 (length bs / 12))
+    c.full_count.ensures ∙ sym (ap (λ p. length (points_of p)) h ∙ length-map-range_with_len (λ i. named c.in-Full.scale (full_at bs (i * 12))) 0 (length bs / 12))
 
 pub returns-in-Delta : goal.returns-in-Delta
 returns-in-Delta c =
     let bs = c.in-Delta.bytes.now in
     let h = c.in-Delta.is in
-    c.delta-count.ensures ∙ sym (ap (λ p. length (points_of p)) h ∙ length-map-range_with_len (λ i. named c.in-Delta.scale (delta_at bs (i * 28)).level) 0 (length bs / 28))
+    c.delta_count.ensures ∙ sym (ap (λ p. length (points_of p)) h ∙ length-map-range_with_len (λ i. named c.in-Delta.scale (delta_at bs (i * 28)).level) 0 (length bs / 28))
