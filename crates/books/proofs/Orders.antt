@@ -1,6 +1,6 @@
 -- The laws of a keeper.
 use Rattle.std.proofs.Common.{◌≡◌, ℕ, zero, suc, ◌<◌, ◌≤◌, Bool, true, false, cond, eqb, leb, List, [], ◌∷◌, length, get_or, set, replicate, Some, refl, ap, ◌∙◌, arith}
-use Rattle.std.specs.List.{slice_get, AllByRecursion as All}
+use Rattle.std.specs.List.{slice_get, AllByRecursion}
 use Rattle.std.proofs.ByRecursion.{All-set}
 use Rattle.std.proofs.lemmas.Bool.{cond_both, cond-true, leb-true, le-leb}
 use Rattle.wire.specs.declared.point.Side.{Side}
@@ -24,11 +24,11 @@ none : (d : ℕ) (w : Bool) (t : ℕ) → Both d (emptied w t)
 none d w t Buy = record { sorted = tt; few = omega arith }
 none d w t Sell = record { sorted = tt; few = omega arith }
 
-all_none : (d n : ℕ) → All (Both d) (replicate n unknown)
+all_none : (d n : ℕ) → AllByRecursion (Both d) (replicate n unknown)
 all_none d zero = tt
 all_none d (suc n) = (none d false 0, all_none d n)
 
-one_of : (d : ℕ) (bs : List Known) (i : ℕ) → All (Both d) bs → Both d (get_or bs i unknown)
+one_of : (d : ℕ) (bs : List Known) (i : ℕ) → AllByRecursion (Both d) bs → Both d (get_or bs i unknown)
 one_of d [] i a = none d false 0
 one_of d (b ∷ bs) zero a = a.0
 one_of d (b ∷ bs) (suc i) a = one_of d bs i a.1

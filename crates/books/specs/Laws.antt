@@ -1,6 +1,6 @@
 -- What always holds of a keeper, whatever it is told, and some sizes of its tables.
 use Rattle.std.specs.Prelude.{◌≡◌, ℕ, suc, ◌<◌, ◌≤◌, Bool, true, false, List, [], ◌∷◌, length, replicate, Some}
-use Rattle.std.specs.List.{AllByRecursion as All}
+use Rattle.std.specs.List.{AllByRecursion}
 use Rattle.wire.specs.declared.point.Side.{Side}
 use Rattle.wire.specs.Reading.{full}
 use Rattle.ladder.specs.Laws.{Sorted}
@@ -18,7 +18,7 @@ pub record Laddered (d : ℕ) (b : Known) (s : Side) : Type 0 where
 
 -- both sides of each book are in order
 pub record InOrder (k : Kept) : Type 0 where
-  pub all : All (λ b. (s : Side) → Laddered k.depth b s) k.books
+  pub all : AllByRecursion (λ b. (s : Side) → Laddered k.depth b s) k.books
 
 -- no point of a message makes a side longer than d levels
 abbrev pub PointsFit : ℕ → List Point → Known → Type 0
