@@ -1,5 +1,5 @@
 -- A channel that follows a history goes on following it.
-use Rattle.std.proofs.Common.{◌≡◌, ℕ, ◌+◌, ◌-◌, ◌≤◌, true, false, List, [], ◌∷◌, is_some, is_ok, Some, None, Ok, Err, Option, Result, sym, refl, ap, ◌∙◌, subst}
+use Rattle.std.proofs.Common.{◌≡◌, ℕ, ◌+◌, ◌≤◌, true, false, List, [], ◌∷◌, is_some, is_ok, Some, None, Ok, Err, Option, Result, sym, refl, ap, ◌∙◌, subst}
 use Rattle.wire.specs.Reading.{Pkt}
 use Rattle.sink.specs.Events.{Event}
 use Rattle.handover.specs.declared.fault.ChannelFault.{ChannelFault}

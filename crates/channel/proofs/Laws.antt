@@ -2,7 +2,7 @@
 use Rattle.std.proofs.Common.{◌≡◌, ℕ, zero, suc, ◌+◌, ◌-◌, ◌<◌, ◌≤◌, min, true, ◌&&◌, leb, List, ◌∷◌, length, Some, None, Ok, Err, Option, Result, sym, refl, ap, ◌∙◌, subst, ⊎_elim, arith, MatchOption}
 use Rattle.std.proofs.lemmas.Bool.{cond_both, cond-true, and_from, le-leb, both_ways, cases_Bool}
 use Rattle.wire.specs.Reading.{Msg, Pkt}
-use Rattle.wire.specs.Request.{source_right, request, request_after}
+use Rattle.wire.specs.Request.{source_right, request_after}
 use Rattle.shelf.specs.Store.{has, Lawful}
 use Rattle.shelf.proofs.Kept.{held_is_a_map}
 use Rattle.sink.specs.Events.{Event}

@@ -1,7 +1,7 @@
 -- An offer to an open channel, from what was handed over.
 use Rattle.std.proofs.Common.{◌≡◌, ℕ, zero, suc, ◌+◌, ◌-◌, Bool, true, false, cond, eqb, ltb, List, length, Some, None, Ok, Err, Option, Result, sym, refl, ap, ◌∙◌}
 use Rattle.wire.specs.declared.fault.ReadFault.{ReadFault}
-use Rattle.wire.specs.Reading.{Msg, Pkt, reading}
+use Rattle.wire.specs.Reading.{Pkt, reading}
 use Rattle.shelf.specs.Store.{Store, has, with_held}
 use Rattle.sink.specs.Events.{Event}
 use Rattle.order.specs.Machine.{Content, carries, declares, renews, nothing, brought}
@@ -23,11 +23,12 @@ less f = record { last = f.last; held = f.shelf.held; sink = f.sink; scratch = f
 module _ {M : Type 0} (step : Event → M → M) where
   less_handing : (k : ℕ) (f : over.Flow M) → less (over.handing step k f) ≡ handing step k (less f)
   less_handing zero f = refl
-  less_handing (suc k) f = go (has f.shelf.held (f.last + 1))
+  less_handing (suc k) f = go (has f.shelf.held (f.last + 1)) (less_handing k (over.hand step f))
     where
-      go : (t : Bool) → less (cond t (over.handing step k (over.hand step f)) f) ≡ cond t (handing step k (hand step (less f))) (less f)
-      go true = less_handing k (over.hand step f)
-      go false = refl
+      go : (t : Bool) → less (over.handing step k (over.hand step f)) ≡ handing step k (hand step (less f))
+          → less (cond t (over.handing step k (over.hand step f)) f) ≡ cond t (handing step k (hand step (less f))) (less f)
+      go true h = h
+      go false h = refl
 
   less_hands : (k : ℕ) (f : over.Flow M) → less (over.hands step k f) ≡ hands step k (less f)
   less_hands zero f = refl
@@ -48,11 +49,12 @@ module _ {M : Type 0} (step : Event → M → M) where
   -- total and prices of the shelf stay
   stays_handing : (k : ℕ) (f : over.Flow M) → (over.handing step k f).shelf ≡ with_held f.shelf (over.handing step k f).shelf.held
   stays_handing zero f = refl
-  stays_handing (suc k) f = go (has f.shelf.held (f.last + 1))
+  stays_handing (suc k) f = go (has f.shelf.held (f.last + 1)) (stays_handing k (over.hand step f))
     where
-      go : (t : Bool) → (cond t (over.handing step k (over.hand step f)) f).shelf ≡ with_held f.shelf (cond t (over.handing step k (over.hand step f)) f).shelf.held
-      go true = stays_handing k (over.hand step f)
-      go false = refl
+      go : (t : Bool) → (over.handing step k (over.hand step f)).shelf ≡ with_held f.shelf (over.handing step k (over.hand step f)).shelf.held
+          → (cond t (over.handing step k (over.hand step f)) f).shelf ≡ with_held f.shelf (cond t (over.handing step k (over.hand step f)) f).shelf.held
+      go true h = h
+      go false h = refl
 
   stays_hands : (k : ℕ) (f : over.Flow M) → (over.hands step k f).shelf ≡ with_held f.shelf (over.hands step k f).shelf.held
   stays_hands zero f = refl
@@ -84,17 +86,17 @@ abbrev pub left_by : {M : Type 0} → Opened → over.Flow M → State M
 left_by o g = record { opened = Some (at_last g.last o); shelf = g.shelf; sink = g.sink }
 
 -- the verdict on a packet that is offered to an open channel
-verdict_by : (o : Opened) (q : Pkt) (x : Option OfferFault) → either x (Ok (o, q)) (λ f. Err f) ≡ answer (unless x q) (λ q. (o, q))
+verdict_by : (o : Opened) (q : Pkt) (x : Option OfferFault) → either {S = Result (Opened × Pkt) OfferFault} x (Ok (o, q)) (λ f. Err f) ≡ answer (unless x q) (λ q. (o, q))
 verdict_by o q None = refl
 verdict_by o q (Some f) = refl
 
 verdict_read : (o : Opened) (s : Store) (p : List ℕ) (r : Result Pkt ReadFault)
-    → read_then r (λ q. either (against o.last s p q) (Ok (o, q)) (λ f. Err f)) ≡ answer (read_then r (λ q. unless (against o.last s p q) q)) (λ q. (o, q))
+    → read_then {A = Opened × Pkt} r (λ q. either (against o.last s p q) (Ok (o, q)) (λ f. Err f)) ≡ answer (read_then r (λ q. unless (against o.last s p q) q)) (λ q. (o, q))
 verdict_read o s p (Ok q) = verdict_by o q (against o.last s p q)
 verdict_read o s p (Err e) = refl
 
 verdict_room : (o : Opened) (s : Store) (p : List ℕ) (t : Bool)
-    → cond t (Err (Channel Short)) (read_then (reading p) (λ q. either (against o.last s p q) (Ok (o, q)) (λ f. Err f)))
+    → cond {A = Result (Opened × Pkt) OfferFault} t (Err (Channel Short)) (read_then (reading p) (λ q. either (against o.last s p q) (Ok (o, q)) (λ f. Err f)))
     ≡ answer (cond t (Err (Channel Short)) (read_then (reading p) (λ q. unless (against o.last s p q) q))) (λ q. (o, q))
 verdict_room o s p true = refl
 verdict_room o s p false = verdict_read o s p (reading p)
@@ -102,7 +104,7 @@ verdict_room o s p false = verdict_read o s p (reading p)
 module _ {M : Type 0} (step : Event → M → M) (c : State M) (o : Opened) (p b : List ℕ) (is : c.opened ≡ Some o) where
   verdict_is : offer_verdict c p b ≡ answer (verdict (flow_in c o b) p) (λ q. (o, q))
   verdict_is =
-      ap (λ x. either x (Err (Channel Phase)) (λ o. cond (ltb (length b) 1500) (Err (Channel Short)) (read_then (reading p) (λ q. either (against o.last c.shelf p q) (Ok (o, q)) (λ f. Err f))))) is
+      ap (λ x. either {S = Result (Opened × Pkt) OfferFault} x (Err (Channel Phase)) (λ o. cond (ltb (length b) 1500) (Err (Channel Short)) (read_then (reading p) (λ q. either (against o.last c.shelf p q) (Ok (o, q)) (λ f. Err f))))) is
       ∙ verdict_room o c.shelf p (ltb (length b) 1500)
 
   -- where a packet that is taken leads

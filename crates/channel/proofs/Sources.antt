@@ -1,8 +1,8 @@
 -- A source id in front of a buffer.
-use Rattle.std.proofs.Common.{◌≡◌, ℕ, ◌+◌, ◌-◌, ◌≤◌, true, ◌&&◌, leb, List, ◌++◌, length, take, drop, sym, refl, ap, ◌∙◌, arith}
+use Rattle.std.proofs.Common.{◌≡◌, ℕ, ◌≤◌, true, List, ◌++◌, length, take, drop, refl, ap, ◌∙◌, arith}
 use Rattle.std.proofs.lemmas.List.{take_at, length-append, length-drop}
 use Rattle.std.proofs.lemmas.Bool.Decides.{nat_tests}
-use Rattle.wire.specs.Request.{source_right, nonzero}
+use Rattle.wire.specs.Request.{source_right}
 
 -- a right source id has at most 20 bytes
 pub source_short : (s : List ℕ) → source_right s ≡ true → length s ≤ 20

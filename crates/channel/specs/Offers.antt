@@ -1,5 +1,5 @@
 -- An offer: when it is refused, and what it hands over when it is taken.
-use Rattle.std.specs.Prelude.{ℕ, zero, suc, ◌+◌, ◌-◌, cond, List, length, Ok, Err, Result, ◌==◌, nat_lt}
+use Rattle.std.specs.Prelude.{ℕ, zero, suc, ◌+◌, ◌-◌, cond, List, length, Some, Ok, Err, Result, ◌==◌, nat_lt}
 use Rattle.wire.specs.Reading.{Msg, Pkt, reading}
 use Rattle.shelf.specs.Store.{Packets, lookup, has, insert, remove, with_held, written}
 use Rattle.sink.specs.Events.{Event, data_of, refresh_of}

@@ -7,9 +7,9 @@ use Rattle.channel.proofs.channel.Channel.claim.Goals as goal
 pub returns : goal.returns
 returns g c =
     record {
-      answer = c.claim-step.ensures.answer;
-      after = c.claim-step.ensures.after;
-      buffer = c.claim-step.ensures.buffer;
-      stands = goes_on g.S.Sink.step (state g.S.Sink g.H.Shelf c.args.self.now) (state g.S.Sink g.H.Shelf c.claim-step.new.self) (claim c.args.time c.args.buffer.now) (is_ok c.claim-step.result)
-          (ap is_ok c.claim-step.ensures.answer) c.claim-step.ensures.after;
+      answer = c.claim_step.ensures.answer;
+      after = c.claim_step.ensures.after;
+      buffer = c.claim_step.ensures.buffer;
+      stands = goes_on g.S.Sink.step (state g.S.Sink g.H.Shelf c.args.self.now) (state g.S.Sink g.H.Shelf c.claim_step.new.self) (claim c.args.time c.args.buffer.now) (is_ok c.claim_step.result)
+          (ap is_ok c.claim_step.ensures.answer) c.claim_step.ensures.after;
     }

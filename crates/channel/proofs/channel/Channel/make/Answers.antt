@@ -7,10 +7,10 @@ use Rattle.channel.proofs.channel.Channel.make.Goals as goal
 pub returns : goal.returns
 returns g c =
     record {
-      answer = c.make-step.ensures.answer;
-      after = c.make-step.ensures.after;
-      stands = goes_on g.S.Sink.step (state g.S.Sink g.H.Shelf c.args.self.now) (state g.S.Sink g.H.Shelf c.make-step.new.self) (make c.args.number c.args.source.now c.args.first) (is_ok c.make-step.result)
-          (ap is_ok c.make-step.ensures.answer) c.make-step.ensures.after;
-      begins = begins g.S.Sink.step (state g.S.Sink g.H.Shelf c.args.self.now) (state g.S.Sink g.H.Shelf c.make-step.new.self) c.args.number c.args.source.now c.args.first (is_ok c.make-step.result)
-          (ap is_ok c.make-step.ensures.answer) c.make-step.ensures.after;
+      answer = c.make_step.ensures.answer;
+      after = c.make_step.ensures.after;
+      stands = goes_on g.S.Sink.step (state g.S.Sink g.H.Shelf c.args.self.now) (state g.S.Sink g.H.Shelf c.make_step.new.self) (make c.args.number c.args.source.now c.args.first) (is_ok c.make_step.result)
+          (ap is_ok c.make_step.ensures.answer) c.make_step.ensures.after;
+      begins = begins g.S.Sink.step (state g.S.Sink g.H.Shelf c.args.self.now) (state g.S.Sink g.H.Shelf c.make_step.new.self) c.args.number c.args.source.now c.args.first (is_ok c.make_step.result)
+          (ap is_ok c.make_step.ensures.answer) c.make_step.ensures.after;
     }

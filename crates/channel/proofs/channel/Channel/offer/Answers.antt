@@ -7,9 +7,9 @@ use Rattle.channel.proofs.channel.Channel.offer.Goals as goal
 pub returns : goal.returns
 returns g c =
     record {
-      answer = c.offer-step.ensures.answer;
-      after = c.offer-step.ensures.after;
-      scratch = c.offer-step.ensures.scratch;
-      stands = goes_on g.S.Sink.step (state g.S.Sink g.H.Shelf c.args.self.now) (state g.S.Sink g.H.Shelf c.offer-step.new.self) (offer c.args.packet.now c.args.scratch.now) (is_ok c.offer-step.result)
-          (ap is_ok c.offer-step.ensures.answer) c.offer-step.ensures.after;
+      answer = c.offer_step.ensures.answer;
+      after = c.offer_step.ensures.after;
+      scratch = c.offer_step.ensures.scratch;
+      stands = goes_on g.S.Sink.step (state g.S.Sink g.H.Shelf c.args.self.now) (state g.S.Sink g.H.Shelf c.offer_step.new.self) (offer c.args.packet.now c.args.scratch.now) (is_ok c.offer_step.result)
+          (ap is_ok c.offer_step.ensures.answer) c.offer_step.ensures.after;
     }

@@ -7,8 +7,8 @@ use Rattle.channel.proofs.channel.Channel.settle.Goals as goal
 pub returns : goal.returns
 returns g c =
     record {
-      answer = c.settle-step.ensures.answer;
-      after = c.settle-step.ensures.after;
-      stands = goes_on g.S.Sink.step (state g.S.Sink g.H.Shelf c.args.self.now) (state g.S.Sink g.H.Shelf c.settle-step.new.self) (settle c.args.claim) (is_ok c.settle-step.result)
-          (ap is_ok c.settle-step.ensures.answer) c.settle-step.ensures.after;
+      answer = c.settle_step.ensures.answer;
+      after = c.settle_step.ensures.after;
+      stands = goes_on g.S.Sink.step (state g.S.Sink g.H.Shelf c.args.self.now) (state g.S.Sink g.H.Shelf c.settle_step.new.self) (settle c.args.claim) (is_ok c.settle_step.result)
+          (ap is_ok c.settle_step.ensures.answer) c.settle_step.ensures.after;
     }
