@@ -1,4 +1,4 @@
-use Rattle.std.proofs.Common.{◌≡◌, take, sym, refl, ap, ◌∙◌}
+use Rattle.std.proofs.Common.{◌≡◌, take, ap, ◌∙◌}
 use Rattle.std.proofs.lemmas.List.{take_all}
 use Rattle.operator.specs.Desks.{desk, desks_after, replies_to, placed}
 use Rattle.operator.proofs.Lists.{runs_on, desk_turn, reply_placed}
