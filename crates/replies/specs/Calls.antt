@@ -1,5 +1,5 @@
 -- The text of the answers to a channel's calls, each line ended.
-use Rattle.std.specs.Prelude.{ℕ, List, ◌++◌, take, Some, None, Ok, Err, codes, decimal, Option, Result}
+use Rattle.std.specs.Prelude.{ℕ, List, ◌++◌, take, Some, None, Ok, Err, codes, decimal, Option}
 use Rattle.std.specs.Option.{unwrap_or}
 use Rattle.shelf.specs.Store.{put_fault_number}
 use Rattle.handover.specs.declared.handover.Taken.{Taken}

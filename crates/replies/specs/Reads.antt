@@ -1,5 +1,5 @@
 -- The text of books and of rows, each line ended.
-use Rattle.std.specs.Prelude.{ℕ, Bool, true, false, List, [], ◌++◌, length, Some, None, codes, decimal, Option}
+use Rattle.std.specs.Prelude.{ℕ, Bool, true, false, List, [], ◌++◌, Some, None, codes, decimal, Option}
 use Rattle.std.specs.List.{slice_get}
 use Rattle.wire.specs.declared.point.Side.{Side}
 use Rattle.wire.specs.declared.point.Side.TheVariants.{Buy, Sell}

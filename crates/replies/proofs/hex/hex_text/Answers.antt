@@ -6,10 +6,10 @@ use Rattle.replies.proofs.hex.hex_text.Goals as goal
 pub loop-byte-preserved : goal.loop-byte-preserved
 loop-byte-preserved c =
     let e = at_drop_more hex_text c.args.bytes.now c.loop-byte.byte-index 0 (omega arith) in
-    let p = c.in-ok-push.ensures.bytes in
-    let a = c.in-ok-push.ensures.ascii (search rules) in
-    let q = c.in-ok-push-2.ensures.bytes in
-    let b = c.in-ok-push-2.ensures.ascii (search rules) in
+    let p = c.in_ok-push.ensures.bytes in
+    let a = c.in_ok-push.ensures.ascii (search rules) in
+    let q = c.in_ok-push-2.ensures.bytes in
+    let b = c.in_ok-push-2.ensures.ascii (search rules) in
     search (rules, append_assoc)
 
 pub returns : goal.returns
