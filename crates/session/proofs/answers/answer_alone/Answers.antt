@@ -23,4 +23,4 @@ unreadable_alone State p s r = refl
 
 pub returns : goal.returns
 returns c =
-    c.in-ok-from-str.ensures.ok ∙ unreadable_alone c.args.command c.in-default.not-Pass c.in-default.not-Setup c.in-default.not-Read
+    c.in_ok-from_str-in_default.ensures.ok ∙ unreadable_alone c.args.command c.in_default.not-Pass c.in_default.not-Setup c.in_default.not-Read
