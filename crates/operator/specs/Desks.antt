@@ -1,5 +1,5 @@
 -- What an operator's actions come to.
-use Rattle.std.specs.Prelude.{ℕ, cond, List, [], ◌∷◌, is_some, Some, None, Err, vec_items, Option}
+use Rattle.std.specs.Prelude.{◌≡◌, ℕ, true, cond, List, [], ◌∷◌, is_some, is_ok, IfSome, Some, None, Err, vec_items, Option}
 use Rattle.std.specs.Option.{option_map}
 use Rattle.std.specs.Result.{result_ok, result_err}
 use Rattle.std.specs.Result as results
@@ -98,6 +98,10 @@ module _ {M : Type 0} (step : Event → M → M) where
   abbrev pub RunsOn : List Action → Desk M → Desk M → Type 0
   RunsOn xs d e = (before : M) (h : History) → Follows step before h d.channel
       → Follows step before (history_of xs d h) e.channel × Promise step before (history_of xs d h) e.channel
+
+-- THE CLAIM IN HAND can be settled: it is the one that is out of the channel
+abbrev pub IsOwn : {M : Type 0} → State M → Option Claim → Type 0
+IsOwn c h = IfSome h (λ k. is_ok (settle_answer c k) ≡ true)
 
 -- the first replies put in the first places of a table, as many as it has
 abbrev pub placed : List Reply → List Reply → List Reply

@@ -1,7 +1,8 @@
 //! Running a list of actions.
 ghost use Rattle.std.specs.Prelude.{◌≡◌, length, if◌then◌else◌, nat_lt, slice_set};
 ghost use Rattle.operator.specs.declared.action.Action.TheVariants.{Claim as Claims, Settle};
-ghost use Rattle.operator.specs.Desks.{desk, desk_after, reply_to, desks_after, replies_to, placed, RunsOn};
+ghost use Rattle.operator.specs.Desks.{desk, desk_after, reply_to, desks_after, replies_to, placed, RunsOn, IsOwn};
+ghost use Rattle.channel.specs.Channels.{state};
 
 use crate::action::{Action, Asked, Reply};
 use channel::{Channel, ChannelFault, Claim};
@@ -92,7 +93,7 @@ fn place(replies: &mut [Reply], i: usize, reply: Reply)
 }
 
 /// Does a list of actions, the first one first. The replies go into the first places of a table, as many as it has. Whatever history the channel followed, it
-/// then follows that history with the calls of the list, and keeps the promise of it.
+/// then follows that history with the calls of the list, and keeps the promise of it. A claim in hand that could be settled before can be settled after.
 pub fn run<S: Sink, H: Shelf>(
     channel: &mut Channel<S, H>,
     hand: &mut Option<Claim>,
@@ -103,6 +104,7 @@ pub fn run<S: Sink, H: Shelf>(
     ensures after { desk (S.Sink) (H.Shelf) channel.new hand.new buffer.new ≡ desks_after S.Sink.step actions.now (desk (S.Sink) (H.Shelf) channel.old hand.old buffer.old) }
     ensures replies { replies.new ≡ placed (replies_to S.Sink.step actions.now (desk (S.Sink) (H.Shelf) channel.old hand.old buffer.old)) replies.old }
     ensures stands { RunsOn S.Sink.step actions.now (desk (S.Sink) (H.Shelf) channel.old hand.old buffer.old) (desk (S.Sink) (H.Shelf) channel.new hand.new buffer.new) }
+    ensures own { IsOwn (state (S.Sink) (H.Shelf) channel.old) hand.old → IsOwn (state (S.Sink) (H.Shelf) channel.new) hand.new }
 {
     for (i, action) in actions.iter().enumerate() {
         let reply = act(channel, hand, action, buffer);

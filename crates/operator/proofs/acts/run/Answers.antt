@@ -2,6 +2,7 @@ use Rattle.std.proofs.Common.{◌≡◌, take, ap, ◌∙◌}
 use Rattle.std.proofs.lemmas.List.{take_all}
 use Rattle.operator.specs.Desks.{desk, desks_after, replies_to, placed}
 use Rattle.operator.proofs.Lists.{runs_on, desk_turn, reply_placed}
+use Rattle.operator.proofs.Owns.{own_to}
 use Rattle.operator.proofs.acts.run.Goals as goal
 
 pub loop-i-preserved : goal.loop-i-preserved
@@ -32,4 +33,5 @@ returns g c =
       after = after;
       replies = inv.1 ∙ ap (λ ys. placed (replies_to step ys entry) c.args.replies.now) all;
       stands = runs_on step xs entry end after;
+      own = own_to step xs entry end after;
     }
