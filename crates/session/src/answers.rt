@@ -1,6 +1,7 @@
 //! What a command asks of a session, answered.
 ghost use Rattle.std.specs.Prelude.{◌≡◌, [], ◌∷◌, IfSome, IfOk, string_bytes};
-ghost use Rattle.operator.specs.Desks.{desk, RunsOn};
+ghost use Rattle.operator.specs.Desks.{desk, RunsOn, IsOwn};
+ghost use Rattle.channel.specs.Channels.{state};
 ghost use Rattle.session.specs.Commands.{board, told, action_of, left_by, answer_to, answer_alone};
 
 use crate::acts::act_text;
@@ -24,7 +25,8 @@ pub fn answer_alone(heap: Global, command: Command) -> Result<String, AllocError
 }
 
 /// The answer to a command, each line ended. What it asks of the channel goes through the operator, so that whatever history the channel followed it then follows
-/// that history with the call of the command, and keeps the promise of it. A setup is the caller's.
+/// that history with the call of the command, and keeps the promise of it. A claim in hand that could be settled before can be settled after. A setup is the
+/// caller's.
 pub fn answer<H: Shelf>(
     heap: Global,
     channel: &mut Channel<Board<'_, '_, '_, '_>, H>,
@@ -35,6 +37,7 @@ pub fn answer<H: Shelf>(
     ensures text { IfOk result (λ t. string_bytes t ≡ answer_to command (desk board (H.Shelf) channel.old hand.old buffer.old)) }
     ensures stands { IfSome (action_of command) (λ a. RunsOn told (a ∷ []) (desk board (H.Shelf) channel.old hand.old buffer.old) (desk board (H.Shelf) channel.new hand.new buffer.new)) }
     ensures after { desk board (H.Shelf) channel.new hand.new buffer.new ≡ left_by command (desk board (H.Shelf) channel.old hand.old buffer.old) }
+    ensures own { IsOwn (state board (H.Shelf) channel.old) hand.old → IsOwn (state board (H.Shelf) channel.new) hand.new }
 {
     match command {
         Command::Pass | Command::Setup(_) => Ok(String::new(heap)),

@@ -19,4 +19,5 @@ returns-in_ok-from_str-in-Unreadable g c =
       text = c.in_ok-from_str-in-Unreadable.ensures.ok ∙ sym (ap (λ (k : Command). answer_to k d) e);
       stands = no_action a.command _ e;
       after = sym (ap (λ (k : Command). left_by k d) e);
+      own = λ o. o;
     }
