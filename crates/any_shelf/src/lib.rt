@@ -6,7 +6,7 @@ ghost use Rattle.slot_shelf.specs.Slots.{empty_store};
 ghost use Rattle.chain_shelf.specs.Chain.{fresh};
 ghost use Rattle.chain_shelf.specs.Regions.{fit};
 ghost use Rattle.any_shelf.specs.Either.{either_store, any_store};
-ghost use Rattle.std.proofs.Common.{rules};
+ghost use Rattle.any_shelf.specs.EitherLaw.{either_lawful};
 
 use chain_shelf::{ChainShelf, Region, RegionFault};
 use shelf::{PutFault, Shelf, TakeFault};
@@ -22,7 +22,7 @@ pub enum Either<A, B> {
 impl<A: Shelf, B: Shelf> Shelf for Either<A, B> {
     ghost means = { either_store A.Shelf.means B.Shelf.means };
 
-    ghost lawful = { Prim.search rules };
+    ghost lawful = { either_lawful A.Shelf.means B.Shelf.means A.Shelf.lawful B.Shelf.lawful };
 
     fn put(&mut self, number: u32, packet: &[u8]) -> Result<(), PutFault> {
         match self {

@@ -5,13 +5,13 @@ use Rattle.std.proofs.lemmas.Bool.Decides.{nat_tests}
 use Rattle.chain_shelf.specs.Records.{Mem, mem, records, link, next, number, size, tail, span, walk, cnt, heads, Inside, under, last}
 use Rattle.shelf.specs.Store.{Packets, Up, Sized, has, lookup}
 use Rattle.chain_shelf.specs.Chain.{pack, layout, packets, tally, packs, held, Seg, Sound, Kept, Before}
-use Rattle.chain_shelf.specs.Fills.{cnt_first}
+use Rattle.chain_shelf.proofs.Fills.{cnt_first}
 use Rattle.chain_shelf.proofs.Frames.{heads_tally, pack_length}
-use Rattle.chain_shelf.specs.Segs.{first, seg_from, seg_first, seg_last, below_from, below_last, Below}
+use Rattle.chain_shelf.proofs.Segs.{first, seg_from, seg_first, seg_last, below_from, below_last, Below}
 use Rattle.chain_shelf.proofs.Places.{place, at_first, has_place, lookup_place, rest}
 use Rattle.chain_shelf.proofs.Puts.{halves}
 use Rattle.chain_shelf.specs.Sounds.{opened}
-use Rattle.chain_shelf.specs.Trails.{under_more}
+use Rattle.chain_shelf.proofs.Trails.{under_more}
 
 pub heads_below : (b : List ℕ) → Sound b → Below (records b) (heads b)
 heads_below b s = below_from (records b) (heads b) (λ q l. let t = heads_tally (mem b) (heads b) q in (s.inside q (omega arith)).1)

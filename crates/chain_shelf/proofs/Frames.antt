@@ -3,9 +3,9 @@ use Rattle.std.proofs.Common.{◌≡◌, ℕ, zero, suc, ◌+◌, ◌-◌, ◌*�
 use Rattle.std.proofs.lemmas.Bool.{cases_eq}
 use Rattle.chain_shelf.specs.Records.{Mem, link, number, size, cut, span, walk, gather, hit, cnt, Apart}
 use Rattle.chain_shelf.specs.Chain.{pack, layout, tally}
-use Rattle.chain_shelf.specs.Cuts.{cut_same, cut_length}
-use Rattle.chain_shelf.specs.Counts.{walk_keep}
-use Rattle.chain_shelf.specs.Fills.{hit_same, hit_not, cnt_first, apart_first, apart_rest}
+use Rattle.chain_shelf.proofs.Cuts.{cut_same, cut_length}
+use Rattle.chain_shelf.proofs.Counts.{walk_keep}
+use Rattle.chain_shelf.proofs.Fills.{hit_same, hit_not, cnt_first, apart_first, apart_rest}
 
 pub link_same : (m w : Mem) (r : ℕ) → w r 0 ≡ m r 0 → w r 1 ≡ m r 1 → link w r ≡ link m r
 link_same m w r a b = cc

@@ -3,8 +3,8 @@ use Rattle.std.proofs.Common.{◌≡◌, ℕ, zero, suc, ◌+◌, ◌-◌, ◌<�
 use Rattle.std.proofs.lemmas.Bool.{cases_eq}
 use Rattle.chain_shelf.specs.Records.{mem, records, link, next, tail, in_use, walk, hit, cnt, last}
 use Rattle.chain_shelf.specs.Chain.{held, Sound}
-use Rattle.chain_shelf.specs.Fills.{hit_same, hit_not}
-use Rattle.chain_shelf.specs.Sounds.{sound_of}
+use Rattle.chain_shelf.proofs.Fills.{hit_same, hit_not}
+use Rattle.chain_shelf.proofs.Sounds.{sound_of}
 
 -- records that follow one another
 pub row : (g : ℕ → ℕ) (R n r : ℕ) → r + n ≤ R → ((s : ℕ) → s + 1 < R → g s ≡ s + 1) → (q : ℕ) → (cnt q (walk g n r) ≤ 1) × (0 < cnt q (walk g n r) → (r ≤ q) × (q < r + n))

@@ -2,8 +2,8 @@
 use Rattle.std.proofs.Common.{◌≡◌, ℕ, ◌+◌, ◌-◌, ◌/◌, ◌<◌, ◌≤◌, ◌⊎◌, List, length, sym, refl, ap, ◌∙◌, subst, inl, inr, ⊎_elim, arith}
 use Rattle.chain_shelf.specs.Records.{Mem, word, link, next, number, size, tail, in_use, span, walk, gather, cnt, Apart, Inside, last}
 use Rattle.chain_shelf.specs.Chain.{LaidIn, end}
-use Rattle.chain_shelf.specs.Fills.{cnt_first, links_kept}
-use Rattle.chain_shelf.specs.Counts.{last_in, walk_turn}
+use Rattle.chain_shelf.proofs.Fills.{cnt_first, links_kept}
+use Rattle.chain_shelf.proofs.Counts.{last_in, walk_turn}
 use Rattle.chain_shelf.proofs.Frames.{gather_same, link_same}
 
 module _ (m v f z u w : Mem) (R p k r l t : ℕ) (xs : List ℕ) (e : r ≡ link m 0)

@@ -1,5 +1,11 @@
+mod Cuts
+mod Fills
+mod Trails
+mod Counts
 mod Frames
+mod Segs
 mod Places
+mod Sounds
 mod Puts
 mod Takes
 mod Finds

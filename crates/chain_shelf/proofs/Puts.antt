@@ -4,13 +4,13 @@ use Rattle.std.proofs.lemmas.Bool.{cases_eq}
 use Rattle.chain_shelf.specs.Records.{Mem, mem, records, link, next, size, tail, span, walk, gather, hit, cnt, heads, Apart, Inside, under, last}
 use Rattle.shelf.specs.Store.{units, Up, Sized, has, insert}
 use Rattle.chain_shelf.specs.Chain.{pack, layout, packets, tally, loose, packs, held, spent, free, Seg, Sound, LaidIn}
-use Rattle.chain_shelf.specs.Fills.{hit_not, cnt_first}
-use Rattle.chain_shelf.specs.Counts.{cnt_append, tally_append, layout_append, packets_append, ahead, ahead_last, walk_split, walk_keep, walk_turn, last_in, last_link, loose_append, loose_keep}
+use Rattle.chain_shelf.proofs.Fills.{hit_not, cnt_first}
+use Rattle.chain_shelf.proofs.Counts.{cnt_append, tally_append, layout_append, packets_append, ahead, ahead_last, walk_split, walk_keep, walk_turn, last_in, last_link, loose_append, loose_keep}
 use Rattle.chain_shelf.proofs.Frames.{layout_same, heads_tally}
-use Rattle.chain_shelf.specs.Segs.{seg_in, seg_from, seg_end, last_append}
+use Rattle.chain_shelf.proofs.Segs.{seg_in, seg_from, seg_end, last_append}
 use Rattle.shelf.proofs.Kept.{up_insert, sized_insert, units_insert}
 use Rattle.chain_shelf.proofs.Places.{place, insert_place, rest}
-use Rattle.chain_shelf.specs.Sounds.{sound_of}
+use Rattle.chain_shelf.proofs.Sounds.{sound_of}
 
 packs_split : (b : List ℕ) (k : ℕ) → packs b ≡ layout (mem b) (under (mem b) k (heads b)) ++ layout (mem b) (rest (mem b) k (heads b))
 packs_split b k = sym (ap (layout (mem b)) (place (mem b) k (heads b))) ∙ layout_append (mem b) (under (mem b) k (heads b)) (rest (mem b) k (heads b))

@@ -3,13 +3,13 @@ use Rattle.std.proofs.Common.{◌≡◌, ℕ, ◌+◌, ◌-◌, ◌/◌, ◌<◌
 use Rattle.chain_shelf.specs.Records.{Mem, mem, records, link, next, number, size, tail, span, walk, cnt, heads, Apart, under, last}
 use Rattle.shelf.specs.Store.{units, Up, Sized, remove}
 use Rattle.chain_shelf.specs.Chain.{pack, layout, packets, tally, loose, packs, held, spent, free, Seg, Sound, TakenOut}
-use Rattle.chain_shelf.specs.Counts.{cnt_append, tally_append, layout_append, packets_append, ahead_last, walk_split, walk_keep, walk_turn, last_in, last_link, loose_append, loose_keep}
+use Rattle.chain_shelf.proofs.Counts.{cnt_append, tally_append, layout_append, packets_append, ahead_last, walk_split, walk_keep, walk_turn, last_in, last_link, loose_append, loose_keep}
 use Rattle.chain_shelf.proofs.Frames.{layout_same, heads_tally, link_same, pack_length}
-use Rattle.chain_shelf.specs.Segs.{seg_out, seg_from, seg_end, last_append}
+use Rattle.chain_shelf.proofs.Segs.{seg_out, seg_from, seg_end, last_append}
 use Rattle.shelf.proofs.Kept.{up_remove, sized_remove, units_remove}
 use Rattle.chain_shelf.proofs.Places.{place, remove_place, lookup_place, rest}
 use Rattle.chain_shelf.proofs.Puts.{halves, loose_halves, last_of, heads_apart}
-use Rattle.chain_shelf.specs.Sounds.{sound_of}
+use Rattle.chain_shelf.proofs.Sounds.{sound_of}
 
 module _ (b d : List ℕ) (k h : ℕ) (B : List ℕ) (s : Sound b) (len : length d ≡ length b) (is : rest (mem b) k (heads b) ≡ h ∷ B) (num : number (mem b) h ≡ k)
     (to : TakenOut (mem b) (mem d) (last 0 (under (mem b) k (heads b))) h (last h (walk (link (mem b)) (span 10 (size (mem b) h)) h))) where

@@ -2,9 +2,9 @@
 use Rattle.std.proofs.Common.{◌≡◌, ℕ, ◌-◌, ◌<◌, List, ◌∷◌, length, sym, ap, ◌∙◌, subst, arith}
 use Rattle.chain_shelf.specs.Records.{Mem, mem, records, next, trail}
 use Rattle.chain_shelf.specs.Chain.{Seg, Sound}
-use Rattle.chain_shelf.specs.Segs.{Below, seg_trail, heads_units}
+use Rattle.chain_shelf.proofs.Segs.{Below, seg_trail, heads_units}
 use Rattle.chain_shelf.proofs.Finds.{heads_below}
-use Rattle.chain_shelf.specs.Trails.{trail_more}
+use Rattle.chain_shelf.proofs.Trails.{trail_more}
 
 -- hs is what is left of the chain behind p
 abbrev pub Behind : Mem → ℕ → ℕ → List ℕ → Type 0

@@ -3,8 +3,3 @@ pub mod Chain
 pub mod Regions
 pub mod Faults
 pub mod Sounds
-pub mod Segs
-pub mod Fills
-pub mod Cuts
-pub mod Counts
-pub mod Trails

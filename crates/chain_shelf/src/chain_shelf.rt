@@ -1,8 +1,7 @@
 //! The shelf.
 ghost use Rattle.std.specs.Prelude.{◌≡◌, ◌+◌, ◌*◌, vec_len};
 ghost use Rattle.chain_shelf.specs.Chain.{Kept, store, fresh};
-ghost use Rattle.std.proofs.Common.{arith};
-ghost use Rattle.chain_shelf.specs.Sounds.{opened};
+ghost use Rattle.chain_shelf.specs.Sounds.{store_lawful};
 
 use crate::packets::{
     free_all, number_behind, price_of, put_behind, stands_behind, take_behind, used_in,
@@ -41,12 +40,7 @@ impl ChainShelf {
 impl Shelf for ChainShelf {
     ghost means = { λ s. store s.region.items };
 
-    ghost lawful = { λ s.
-        let d = opened s.region.items s.kept in
-        let l = s.kept.0.1 in
-        let u = s.kept.0.2 in
-        let r = d.room in
-        record { least = λ n a b. omega arith; most = λ n a b. omega arith; up = d.rising; sized = d.sized; grows = λ m n a b e. omega arith; fits = omega arith; spent = omega arith } };
+    ghost lawful = { λ s. store_lawful s.region.items s.kept };
 
     fn put(&mut self, number: u32, packet: &[u8]) -> Result<(), PutFault> {
         let cost = price_of(packet.len());

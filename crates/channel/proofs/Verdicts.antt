@@ -1,5 +1,5 @@
 -- What a verdict tells.
-use Rattle.std.proofs.Common.{◌≡◌, ℕ, ◌+◌, ◌-◌, ◌≤◌, Bool, true, false, cond, ◌&&◌, ◌||◌, eqb, ltb, leb, List, length, is_some, Some, None, Ok, Err, Option, Result, sym, refl, ap, ◌∙◌, subst, arith}
+use Rattle.std.proofs.Common.{◌≡◌, ℕ, ◌+◌, ◌-◌, ◌<◌, ◌≤◌, Bool, true, false, cond, ◌&&◌, ◌||◌, eqb, ltb, leb, List, length, is_some, Some, None, Ok, Err, Option, Result, sym, refl, ap, ◌∙◌, subst, arith}
 use Rattle.std.proofs.lemmas.Bool.{or_parts, leb-false, ltb-false, eqb-false}
 use Rattle.wire.specs.declared.fault.ReadFault.{ReadFault}
 use Rattle.wire.specs.declared.message.Class.TheVariants as class
@@ -125,6 +125,7 @@ pub record Claimed {M : Type 0} (c : State M) (b : List ℕ) (v : Opened × Clai
   pub least : ℕ
   pub above : on_shelf.above c.shelf.held v.0.last ≡ Some least
   pub claim : v.1 ≡ claim_of v.0 least
+  pub few : v.0.claims < 500
 
 pub claim_found : {M : Type 0} (c : State M) (b : List ℕ) (v : Opened × Claim) → claim_verdict c b ≡ Ok v → Claimed c b v
 claim_found c b v e =
@@ -143,6 +144,7 @@ claim_found c b v e =
       least = u.0;
       above = ap (λ (p : Opened). on_shelf.above c.shelf.held p.last) (sym o) ∙ u.1.0;
       claim = sym (ap (λ (p : Opened × Claim). p.1) same) ∙ ap (λ (p : Opened). claim_of p u.0) o;
+      few = subst (λ (p : Opened). p.claims < 500) o (leb-false 500 x.0.claims t.0);
     }
 
 -- what a settlement that is taken found

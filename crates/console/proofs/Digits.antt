@@ -1,5 +1,5 @@
 -- Two digits more.
-use Rattle.std.proofs.Common.{◌≡◌, ℕ, ◌+◌, ◌*◌, ◌<◌, ◌≤◌, List, [], ◌∷◌, ◌++◌, length, get_or, drop, Some, None, Option, sym, refl, ap, ◌∙◌, append_assoc, arith}
+use Rattle.std.proofs.Common.{◌≡◌, ℕ, ◌+◌, ◌*◌, ◌≤◌, List, [], ◌∷◌, ◌++◌, length, get_or, drop, Some, None, Option, refl, ap, append_assoc, arith}
 use Rattle.console.specs.Hex.{nibble, in_front, hex_bytes, behind}
 
 pub hex_two : (ds : List ℕ) → 2 ≤ length ds → hex_bytes ds ≡ in_front (nibble (get_or ds 0 0)) (nibble (get_or ds 1 0)) (hex_bytes (drop 2 ds))

@@ -1,5 +1,5 @@
 -- The first word and what stands behind it, in the words of `words_in`.
-use Rattle.std.proofs.Common.{◌≡◌, ℕ, Bool, true, false, cond, List, [], ◌∷◌, take, drop, sym, refl, ap, ◌∙◌}
+use Rattle.std.proofs.Common.{◌≡◌, ℕ, Bool, true, false, List, [], ◌∷◌, take, drop, sym, refl, ap, ◌∙◌}
 use Rattle.console.specs.Words.{blank, skip_blanks, word_length, cut_word, next_word, joined, words_in, words_of}
 
 skip_one : (b : ℕ) (bs : List ℕ) (t : Bool) → blank b ≡ t → words_in (skip_blanks bs) ≡ words_in bs → words_in (skip_blanks (b ∷ bs)) ≡ words_in (b ∷ bs)

@@ -1,5 +1,5 @@
 -- What flows on through a channel: the numbers that are handed over, from the shelf or as losses.
-use Rattle.std.specs.Prelude.{ℕ, zero, suc, ◌+◌, ◌-◌, Bool, cond, not, ◌&&◌, List, [], length, Some, None, Option, ◌==◌, nat_lt}
+use Rattle.std.specs.Prelude.{ℕ, zero, suc, ◌+◌, ◌-◌, cond, not, ◌&&◌, List, [], length, Some, None, Option, ◌==◌, nat_lt}
 use Rattle.wire.specs.Reading.{Msg}
 use Rattle.shelf.specs.Store.{Packets, Store, lookup, has, above, insert, remove, with_held, written}
 use Rattle.sink.specs.Events.{Event, data_of, refresh_of, restart_of}

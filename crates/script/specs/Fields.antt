@@ -1,7 +1,6 @@
 -- The words behind the first of a command.
 use Rattle.std.specs.Prelude.{ℕ, min, cond, List, [], ◌∷◌, Some, None, codes, Option, ◌==◌}
 use Rattle.std.specs.Borrow.{Bor}
-use Rattle.std.specs.Option.{option_map}
 use Rattle.std.specs.Str.{bytes_eq}
 use Rattle.script.specs.declared.setup.Setup.{Setup}
 use Rattle.script.specs.declared.setup.ShelfKind.{ShelfKind}

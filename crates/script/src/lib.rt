@@ -3,7 +3,6 @@
 
 mod command;
 mod fields;
-mod hex;
 mod number;
 mod setup;
 mod verb;

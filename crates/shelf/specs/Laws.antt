@@ -1,5 +1,5 @@
 -- What the definitions of the map of packets come to: look-ups, the least number above, the units. What quotas on quotas come to.
-use Rattle.std.specs.Prelude.{◌≡◌, ℕ, ◌+◌, ◌-◌, ◌^◌, ◌<◌, ◌≤◌, min, Bool, true, false, cond, List, [], length, is_some, Some, None, MatchOption, ◌==◌}
+use Rattle.std.specs.Prelude.{◌≡◌, ℕ, ◌+◌, ◌-◌, ◌^◌, ◌<◌, ◌≤◌, min, true, false, cond, List, length, is_some, Some, None, MatchOption, ◌==◌}
 use Rattle.shelf.specs.Store.{Packets, Store, Lawful, lookup, has, insert, remove, above, units, Up, capped}
 
 -- the least number held above k, where there is one

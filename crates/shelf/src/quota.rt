@@ -1,7 +1,7 @@
 //! A quota on any shelf.
 ghost use Rattle.std.specs.Prelude.{◌≡◌};
 ghost use Rattle.shelf.specs.Store.{capped};
-ghost use Rattle.std.proofs.Common.{rules};
+ghost use Rattle.shelf.specs.Quotas.{quota_lawful};
 
 use crate::{LONGEST, PutFault, Shelf, TakeFault};
 
@@ -33,7 +33,7 @@ impl<S> Quota<S> {
 impl<S: Shelf> Shelf for Quota<S> {
     ghost means = { λ q. capped q.limit (S.Shelf.means q.below) };
 
-    ghost lawful = { Prim.search rules };
+    ghost lawful = { λ q. quota_lawful q.limit _ (S.Shelf.lawful q.below) };
 
     fn put(&mut self, number: u32, packet: &[u8]) -> Result<(), PutFault> {
         let cost = self.price(packet.len());

@@ -38,7 +38,7 @@ struct Course {
 }
 
 fn agree(same: bool, call: &str) -> anyhow::Result<()> {
-    if same { Ok(()) } else { Err(call.into()) }
+    if same { Ok(()) } else { Err(anyhow!("{call}")) }
 }
 
 fn same(a: &[u8], b: &[u8]) -> bool {

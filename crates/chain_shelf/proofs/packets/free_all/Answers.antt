@@ -2,7 +2,7 @@ use Rattle.std.proofs.Common.{◌≡◌, ℕ, ◌+◌, ◌-◌, ◌/◌, length,
 use Rattle.std.proofs.lemmas.Bool.{cases_eq}
 use Rattle.chain_shelf.specs.Records.{mem, records, link}
 use Rattle.chain_shelf.proofs.Frames.{link_same}
-use Rattle.chain_shelf.specs.Sounds.{closed}
+use Rattle.chain_shelf.proofs.Sounds.{closed}
 use Rattle.chain_shelf.proofs.Fresh.{fresh_sound}
 use Rattle.chain_shelf.proofs.packets.free_all.Goals as goal
 

@@ -1,7 +1,7 @@
 use Rattle.std.proofs.Common.{◌≡◌, ℕ, ◌+◌, ◌-◌, ◌/◌, ◌<◌, List, length, sym, ap, ◌∙◌, subst, arith}
 use Rattle.chain_shelf.specs.Records.{mem, records, link, tail, in_use, span, walk, Apart, Inside}
 use Rattle.chain_shelf.specs.Chain.{end}
-use Rattle.chain_shelf.specs.Fills.{cnt_first}
+use Rattle.chain_shelf.proofs.Fills.{cnt_first}
 use Rattle.chain_shelf.proofs.Lays.{walk_head, laid_in}
 use Rattle.chain_shelf.proofs.packets.lay_packet.Goals as goal
 

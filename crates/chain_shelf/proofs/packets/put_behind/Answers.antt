@@ -1,8 +1,9 @@
 use Rattle.std.proofs.Common.{length, subst, arith}
-use Rattle.chain_shelf.specs.Records.{mem, span, last}
+use Rattle.chain_shelf.specs.Records.{mem, span}
 use Rattle.chain_shelf.specs.Chain.{LaidIn}
 use Rattle.chain_shelf.proofs.Puts.{put_sound, free_apart, free_inside, free_out}
-use Rattle.chain_shelf.specs.Sounds.{opened, closed}
+use Rattle.chain_shelf.specs.Sounds.{opened}
+use Rattle.chain_shelf.proofs.Sounds.{closed}
 use Rattle.chain_shelf.proofs.Stores.{right_least, right_most}
 use Rattle.chain_shelf.proofs.packets.put_behind.Goals as goal
 

@@ -4,10 +4,11 @@ use Rattle.shelf.specs.Store.{length_of, written}
 use Rattle.shelf.proofs.Kept.{units_remove}
 use Rattle.chain_shelf.specs.Records.{mem, records, link, size, span, walk, gather, last, Inside}
 use Rattle.chain_shelf.specs.Chain.{held, pack, TakenOut}
-use Rattle.chain_shelf.specs.Counts.{last_in}
+use Rattle.chain_shelf.proofs.Counts.{last_in}
 use Rattle.chain_shelf.proofs.Finds.{there}
 use Rattle.chain_shelf.proofs.Frames.{pack_length}
-use Rattle.chain_shelf.specs.Sounds.{opened, closed}
+use Rattle.chain_shelf.specs.Sounds.{opened}
+use Rattle.chain_shelf.proofs.Sounds.{closed}
 use Rattle.chain_shelf.proofs.Takes.{take_sound}
 use Rattle.chain_shelf.proofs.packets.take_behind.Goals as goal
 

@@ -2,8 +2,8 @@ use Rattle.std.proofs.Common.{◌≡◌, ℕ, ◌+◌, ◌-◌, ◌*◌, ◌/◌
 use borrow.Rule.Slice.PartMut.{post_of}
 use Rattle.std.proofs.lemmas.List.{take_rest, length-drop}
 use Rattle.chain_shelf.specs.Records.{mem, records, cut, link, span, walk, Inside, last}
-use Rattle.chain_shelf.specs.Cuts.{cut_is, cut_length}
-use Rattle.chain_shelf.specs.Fills.{span_one, gather_one, walk_next, gather_next, behind, inside_rest, cnt_first}
+use Rattle.chain_shelf.proofs.Cuts.{cut_is, cut_length}
+use Rattle.chain_shelf.proofs.Fills.{span_one, gather_one, walk_next, gather_next, behind, inside_rest, cnt_first}
 use Rattle.chain_shelf.proofs.records.+copy.Goals as goal
 
 -- what a copy out of one record gives
@@ -18,7 +18,7 @@ returns-then-buffer-room t c =
     let r = c.args.index in
     let k : (64 * r + o + n) - (64 * r + o) ≡ n = omega arith in
     record {
-      laid = drawn b c.copy-from-slice.new.self r o n ((64 * r + o + n) - (64 * r + o)) k (omega arith) (omega arith) c.copy-from-slice.ensures.after ∙ sym (gather_one (mem b) r o n (omega arith));
+      laid = drawn b c.copy_from_slice.new.self r o n ((64 * r + o + n) - (64 * r + o)) k (omega arith) (omega arith) c.copy_from_slice.ensures.after ∙ sym (gather_one (mem b) r o n (omega arith));
       last = sym (ap (λ f. last r (walk (link (mem b)) f r)) (span_one o n (omega arith)));
     }
 
@@ -39,10 +39,10 @@ copy-requires t c =
     let o = c.args.offset in
     let r = c.args.index in
     let a = c.read-after.result in
-    let X = c.copy-from-slice-2.new.self in
+    let X = c.copy_from_slice-2.new.self in
     let Y = X ++ post_of 0 ((64 - o) - 0) B in
     let P = take (length Y - (64 - o)) (drop (64 - o) Y) in
-    let e : X ≡ cut (mem b) r o (64 - o) = first b X r o c.requires.low c.requires.high c.requires.at c.copy-from-slice-2.ensures.after in
+    let e : X ≡ cut (mem b) r o (64 - o) = first b X r o c.requires.low c.requires.high c.requires.at c.copy_from_slice-2.ensures.after in
     let n : length P ≡ length B - (64 - o) = left X B (64 - o) (ap length e ∙ cut_length (mem b) r o (64 - o)) (omega arith) in
     let w = walk_next (mem b) r o (length B) (length P) a (omega arith) (omega arith) (omega arith) n c.read-after.ensures.is in
     let i = inside_rest (records b) r (walk (link (mem b)) (span 2 (length P)) a) (subst (Inside (records b)) w c.requires.inside) in
@@ -56,10 +56,10 @@ returns t c =
     let o = c.args.offset in
     let r = c.args.index in
     let a = c.read-after.result in
-    let X = c.copy-from-slice-2.new.self in
+    let X = c.copy_from_slice-2.new.self in
     let Y = X ++ post_of 0 ((64 - o) - 0) B in
     let P = take (length Y - (64 - o)) (drop (64 - o) Y) in
-    let e : X ≡ cut (mem b) r o (64 - o) = first b X r o c.requires.low c.requires.high c.requires.at c.copy-from-slice-2.ensures.after in
+    let e : X ≡ cut (mem b) r o (64 - o) = first b X r o c.requires.low c.requires.high c.requires.at c.copy_from_slice-2.ensures.after in
     let k : length X ≡ 64 - o = ap length e ∙ cut_length (mem b) r o (64 - o) in
     let n : length P ≡ length B - (64 - o) = left X B (64 - o) k (omega arith) in
     let w = walk_next (mem b) r o (length B) (length P) a (omega arith) (omega arith) (omega arith) n c.read-after.ensures.is in

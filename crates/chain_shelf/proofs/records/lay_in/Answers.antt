@@ -1,7 +1,7 @@
 use Rattle.std.proofs.Common.{arith}
 use Rattle.std.proofs.lemmas.List.{places}
 use Rattle.chain_shelf.specs.Records.{mem}
-use Rattle.chain_shelf.specs.Cuts.{cut_from}
+use Rattle.chain_shelf.proofs.Cuts.{cut_from}
 use Rattle.chain_shelf.proofs.records.lay_in.Goals as goal
 
 pub returns : goal.returns

@@ -3,7 +3,7 @@ use Rattle.chain_shelf.specs.Records.{mem, number, tail}
 use Rattle.chain_shelf.proofs.Finds.{tail_below, all_under}
 use Rattle.chain_shelf.specs.Sounds.{opened}
 use Rattle.chain_shelf.proofs.records.seek.Goals as goal
-use Rattle.chain_shelf.proofs.records.seek.Goals.{then-last-eq0-via-then-last-eq0, then-last-eq0-via-else-last-eq0+Then-number_at-number}
+use Rattle.chain_shelf.proofs.records.seek.Goals.{then-last-eq0-via-then-last-eq0, then-last-eq0-via-else-last-eq0+then-number_at-number}
 
 pub number_at-requires : goal.number_at-requires
 number_at-requires c =
@@ -20,7 +20,7 @@ returns-then-last-eq0 c =
     let f : tail (mem b) ≡ _ =
     elim c.then-last-eq0.branch [
       | then-last-eq0-via-then-last-eq0 w ↦ all_under b k s (inl (sym e ∙ w.if-last-eq0.true))
-      | then-last-eq0-via-else-last-eq0+Then-number_at-number w ↦
+      | then-last-eq0-via-else-last-eq0+then-number_at-number w ↦
           all_under b k s (inr (omega (arith, ap (number (mem b)) e, w.number_at.ensures.is, w.if-number_at-number.true)))
     ] in
     record { is = e ∙ f; within = omega (arith, tail_below b s) }

@@ -1,7 +1,7 @@
 use Rattle.std.proofs.Common.{◌≡◌, length, sym, ap, ◌∙◌, subst, arith}
-use Rattle.chain_shelf.specs.Records.{mem, records, next, number, trail, under, last}
+use Rattle.chain_shelf.specs.Records.{mem, records, next, trail, under, last}
 use Rattle.chain_shelf.specs.Sounds.{opened}
-use Rattle.chain_shelf.specs.Trails.{trail_none, under_more, under_none}
+use Rattle.chain_shelf.proofs.Trails.{trail_none, under_more, under_none}
 use Rattle.chain_shelf.proofs.Walks.{Left, left_all, left_step}
 use Rattle.chain_shelf.proofs.records.walk_to.Goals as goal
 

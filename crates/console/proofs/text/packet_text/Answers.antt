@@ -14,6 +14,6 @@ pub returns-in-Delta : goal.returns-in-Delta
 returns-in-Delta c =
     let q = packet_model c.args.packet.now in
     let d = c.in-Delta in
-    let n = ap (λ (k : ℕ). update_text (codes "delta") q d.index d.scale k) c.delta-count.ensures in
+    let n = ap (λ (k : ℕ). update_text (codes "delta") q d.index d.scale k) c.delta_count.ensures in
     let e = ap (λ (m : Message). heading_of (model m) q) d.is in
-    IfOk-weaker c.update-text_in-Delta.result _ _ (λ _ h. h ∙ (n ∙ sym e)) c.update-text_in-Delta.ensures
+    IfOk-weaker c.update_text-in-Delta.result _ _ (λ _ h. h ∙ (n ∙ sym e)) c.update_text-in-Delta.ensures

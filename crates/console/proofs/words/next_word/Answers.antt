@@ -3,12 +3,12 @@ use Rattle.console.specs.Words.{next_word, words_of}
 use Rattle.console.proofs.Splits.{words_next}
 use Rattle.console.proofs.words.next_word.Goals as goal
 
-pub returns-then-is-empty : goal.returns-then-is-empty
-returns-then-is-empty c =
+pub returns-then-is_empty : goal.returns-then-is_empty
+returns-then-is_empty c =
     let e : None ≡ next_word c.args.line.now = search rules in
     record { value = e; words = ap words_of e ∙ words_next c.args.line.now }
 
 pub returns : goal.returns
 returns c =
-    let e : Some (c.split-at.result.0.now, c.split-at.result.1.now) ≡ next_word c.args.line.now = search rules in
+    let e : Some (c.split_at.result.0.now, c.split_at.result.1.now) ≡ next_word c.args.line.now = search rules in
     record { value = e; words = ap words_of e ∙ words_next c.args.line.now }

@@ -7,4 +7,4 @@ pub returns : goal.returns
 returns c =
     let w = c.args.word.now in
     let k = c.args.key.now in
-    keyed_is w k c.strip-prefix.result (strip_prefix_is Decides-eqb w k c.strip-prefix.result c.strip-prefix.ensures.cases)
+    keyed_is w k c.strip_prefix.result (strip_prefix_is Decides-eqb w k c.strip_prefix.result c.strip_prefix.ensures.cases)

@@ -1,6 +1,6 @@
 use Rattle.std.proofs.Common.{◌≡◌, ◌<◌, length, sym, arith}
 use Rattle.std.proofs.lemmas.Bool.{lt-ltb, le-ltb}
-use Rattle.slot_shelf.specs.Shelved.{units_all, units_free}
+use Rattle.slot_shelf.proofs.Shelved.{units_all, units_free}
 use Rattle.slot_shelf.proofs.SlotShelf.free.Goals as goal
 
 pub returns-then-not-slot : goal.returns-then-not-slot

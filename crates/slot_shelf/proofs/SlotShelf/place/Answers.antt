@@ -1,6 +1,6 @@
-use Rattle.std.proofs.Common.{◌≡◌, ◌<◌, true, length, get_or, sym, ◌∙◌, arith}
+use Rattle.std.proofs.Common.{◌≡◌, ◌<◌, true, length, get_or, sym, arith}
 use Rattle.slot_shelf.specs.Slots.{holds_number, no_slot}
-use Rattle.slot_shelf.specs.Shelved.{has_none, has_some}
+use Rattle.slot_shelf.proofs.Shelved.{has_none, has_some}
 use Rattle.slot_shelf.proofs.SlotShelf.place.Goals as goal
 
 pub returns-then-holds : goal.returns-then-holds

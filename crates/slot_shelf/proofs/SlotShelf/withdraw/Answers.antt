@@ -3,7 +3,7 @@ use Rattle.std.proofs.lemmas.Bool.Decides.{nat_tests}
 use Rattle.shelf.specs.Store.{length_of, written}
 use Rattle.shelf.proofs.Kept.{lookup_none, remove_none}
 use Rattle.slot_shelf.specs.Slots.{slots_held, slots_sound, emptied, no_slot}
-use Rattle.slot_shelf.specs.Shelved.{right_at, lookup_at, held_emptied, sound_emptied}
+use Rattle.slot_shelf.proofs.Shelved.{right_at, lookup_at, held_emptied, sound_emptied}
 use Rattle.slot_shelf.proofs.SlotShelf.withdraw.Goals as goal
 
 pub empty_at-requires : goal.empty_at-requires
@@ -19,10 +19,11 @@ empty_at-requires c =
 pub invariant_of-self : goal.invariant_of-self
 invariant_of-self c =
     let ss = c.args.self.now.slots.items in
-    let i = c.in-Some.i in (
-      ap length c.empty_at.ensures.after ∙ length-set ss i _ ∙ c.args.self.now.sixteen,
-      (ap slots_sound c.empty_at.ensures.after ∙ sound_emptied ss i (emptied (get_or ss i no_slot)) refl c.args.self.now.sound, tt),
-    )
+    let i = c.in-Some.i in
+    record {
+      sixteen = ap length c.empty_at.ensures.after ∙ length-set ss i _ ∙ c.args.self.now.sixteen;
+      sound = ap slots_sound c.empty_at.ensures.after ∙ sound_emptied ss i (emptied (get_or ss i no_slot)) refl c.args.self.now.sound;
+    }
 
 pub returns-in-Some : goal.returns-in-Some
 returns-in-Some c =

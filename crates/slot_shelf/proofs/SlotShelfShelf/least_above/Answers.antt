@@ -1,7 +1,5 @@
-use Rattle.std.proofs.Common.{◌≡◌, ◌+◌, ◌<◌, length, get_or, drop, sym, ap, ◌∙◌, arith}
-use Rattle.shelf.specs.Store.{above}
-use Rattle.slot_shelf.specs.Slots.{slots_held, lesser, number_above, no_slot}
-use Rattle.slot_shelf.specs.Shelved.{above_more, above_end}
+use Rattle.std.proofs.Common.{◌≡◌, ◌<◌, length, sym, ◌∙◌, arith}
+use Rattle.slot_shelf.proofs.Shelved.{above_more, above_end}
 use Rattle.slot_shelf.proofs.SlotShelfShelf.least_above.Goals as goal
 
 pub loop-slot-preserved : goal.loop-slot-preserved

@@ -8,7 +8,7 @@ pub invariant_of-result : goal.invariant_of-result
 invariant_of-result c =
     let w = c.free_all.new.bytes in
     let v = c.into_bytes-region.result in
-    (subst Kept (sym (take_at w (drop (length w) v.items) v.len (c.free_all.auto.bytes ∙ c.deref_mut.ensures.len))) c.free_all.ensures.kept, tt)
+    record { kept = subst Kept (sym (take_at w (drop (length w) v.items) v.len (c.free_all.auto.bytes ∙ c.deref_mut.ensures.len))) c.free_all.ensures.kept }
 
 pub returns : goal.returns
 returns c =

@@ -10,7 +10,7 @@ pub invariant_of-self : goal.invariant_of-self
 invariant_of-self c =
     let w = c.put_behind.new.bytes in
     let v = c.args.self.now.region in
-    (subst Kept (sym (take_at w (drop (length w) v.items) v.len (c.put_behind.auto.bytes ∙ c.deref_mut.ensures.len))) c.put_behind.ensures.kept, tt)
+    record { kept = subst Kept (sym (take_at w (drop (length w) v.items) v.len (c.put_behind.auto.bytes ∙ c.deref_mut.ensures.len))) c.put_behind.ensures.kept }
 
 pub returns : goal.returns
 returns c =

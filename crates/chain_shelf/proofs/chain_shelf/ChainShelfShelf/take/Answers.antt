@@ -23,7 +23,7 @@ pub invariant_of-self : goal.invariant_of-self
 invariant_of-self c =
     let w = c.take_behind.new.bytes in
     let v = c.args.self.now.region in
-    (subst Kept (sym (take_at w (drop (length w) v.items) v.len (c.take_behind.auto.bytes ∙ c.deref_mut.ensures.len))) c.take_behind.ensures.kept, tt)
+    record { kept = subst Kept (sym (take_at w (drop (length w) v.items) v.len (c.take_behind.auto.bytes ∙ c.deref_mut.ensures.len))) c.take_behind.ensures.kept }
 
 pub returns : goal.returns
 returns c =

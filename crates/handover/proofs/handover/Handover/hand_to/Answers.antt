@@ -1,7 +1,7 @@
-use Rattle.std.proofs.Common.{◌≡◌, sym, refl, ap, ◌∙◌}
+use Rattle.std.proofs.Common.{ap, ◌∙◌}
 use Rattle.handover.specs.Flows.{hands_to}
 use Rattle.handover.specs.Handovers.{flow}
-use Rattle.handover.proofs.Flows.{hands_more, hands_end}
+use Rattle.handover.proofs.Flows.{hands_more}
 use Rattle.handover.proofs.handover.Handover.hand_to.Goals as goal
 
 pub loop-self-preserved : goal.loop-self-preserved

@@ -1,4 +1,4 @@
-use Rattle.std.proofs.Common.{◌≡◌, ℕ, sym}
+use Rattle.std.proofs.Common.{sym}
 use Rattle.order.proofs.Plain.{never}
 use Rattle.handover.proofs.Flows.{past_largest}
 use Rattle.handover.proofs.handover.Handover.holds_next.Goals as goal

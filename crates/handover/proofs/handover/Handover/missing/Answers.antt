@@ -1,4 +1,4 @@
-use Rattle.std.proofs.Common.{◌≡◌, sym, ◌∙◌, arith}
+use Rattle.std.proofs.Common.{sym, ◌∙◌, arith}
 use Rattle.handover.proofs.Flows.{counts, counts_not, counts_above, missing_step}
 use Rattle.handover.proofs.handover.Handover.missing.Goals as goal
 use Rattle.handover.proofs.handover.Handover.missing.Goals.{then-lacks, else-lacks}

@@ -18,7 +18,7 @@ use types.Kit.{Item, ‵, ◌⊛◌, raw, mean, some, later, ◌$◌, ◌∵◌,
 use types.Kit as kit
 use types.Mut.{open_ref}
 use types.Run.{size_lit, stop, fld, bin, addr, returns, enter}
-use types.ByLocal.{alloc_all, pass_all, free_all, look_at, get, through, sets, env}
+use types.ByLocal.{alloc_all, pass_all, free_all, look_at, get, through, sets}
 use types.SemTy.{Body}
 use denote.Array.{Array}
 use denote.ArrayMemory.{Array-apart, Array-whole}

@@ -5,9 +5,9 @@ use Rattle.std.proofs.lemmas.Bool.{eq-eqb, ne_eqb}
 use Rattle.chain_shelf.specs.Records.{Mem, trail, cnt, Apart, last, span}
 use Rattle.shelf.specs.Store.{units}
 use Rattle.chain_shelf.specs.Chain.{layout, packets, Seg, end}
-use Rattle.chain_shelf.specs.Fills.{cnt_first, apart_first, apart_rest}
-use Rattle.chain_shelf.specs.Counts.{cnt_append, last_in}
-use Rattle.chain_shelf.specs.Trails.{trail_more, trail_none}
+use Rattle.chain_shelf.proofs.Fills.{cnt_first, apart_first, apart_rest}
+use Rattle.chain_shelf.proofs.Counts.{cnt_append, last_in}
+use Rattle.chain_shelf.proofs.Trails.{trail_more, trail_none}
 
 pub seg_trail : (g : ℕ → ℕ) (q f : ℕ) (hs : List ℕ) → Seg g q hs → length hs < f → trail g f (g q) ≡ hs
 seg_trail g q f [] s l = trail_none g f (g q) s

@@ -3,7 +3,7 @@ use Rattle.std.specs.Prelude.{◌≡◌, ℕ, zero, suc, ◌+◌, ◌-◌, ◌/�
 use Rattle.std.proofs.Common.{◌∙◌, ap, arith}
 use Rattle.chain_shelf.specs.Records.{Mem, link, size, walk, cnt, Apart, last}
 use Rattle.chain_shelf.specs.Chain.{Pack, layout, packets, tally, loose}
-use Rattle.chain_shelf.specs.Fills.{cnt_first, apart_first, apart_rest}
+use Rattle.chain_shelf.proofs.Fills.{cnt_first, apart_first, apart_rest}
 
 pub cnt_append : (q : ℕ) (xs ys : List ℕ) → cnt q (xs ++ ys) ≡ cnt q xs + cnt q ys
 cnt_append q [] ys = omega arith

@@ -6,7 +6,7 @@ use borrow.Rule.Slice.PartMut.{put_mid}
 use Rattle.std.proofs.lemmas.List.{take-append-drop, take_at, drop_all, length-drop}
 use Rattle.std.proofs.lemmas.Bool.{eq-eqb, ne_eqb}
 use Rattle.chain_shelf.specs.Records.{Mem, cut, link, span, walk, gather, hit, cnt, Apart, Inside}
-use Rattle.chain_shelf.specs.Cuts.{cut_same}
+use Rattle.chain_shelf.proofs.Cuts.{cut_same}
 
 pub hit_same : (q : ℕ) → hit q q ≡ 1
 hit_same q = let e = eq-eqb q q refl in simp e
