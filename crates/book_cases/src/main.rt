@@ -52,7 +52,7 @@ struct Beside {
 }
 
 fn agree(same: bool, what: &str) -> anyhow::Result<()> {
-    if same { Ok(()) } else { Err(what.into()) }
+    if same { Ok(()) } else { Err(anyhow!("{what}")) }
 }
 
 fn copied(heap: Global, sides: &Sides) -> Result<Sides, AllocError> {

@@ -1,5 +1,5 @@
 -- A keeper: a table of books, numbered from 1, and what each event makes of it.
-use Rattle.std.specs.Prelude.{◌≡◌, ℕ, zero, suc, ◌+◌, ◌-◌, ◌*◌, ◌/◌, ◌<◌, ◌≤◌, min, Bool, true, false, cond, ◌&&◌, List, [], ◌∷◌, length, get_or, take, drop, replicate, Some, None, Option, ◌==◌, nat_le, slice_index_or, slice_set}
+use Rattle.std.specs.Prelude.{◌≡◌, ℕ, zero, suc, ◌+◌, ◌-◌, ◌*◌, ◌/◌, ◌<◌, ◌≤◌, min, Bool, true, false, cond, ◌&&◌, List, [], ◌∷◌, length, take, drop, replicate, Some, None, Option, ◌==◌, nat_le, slice_index_or, slice_set}
 use Rattle.std.specs.List.{slice_get}
 use Rattle.wire.specs.declared.point.Side.{Side}
 use Rattle.wire.specs.Reading.{reset, unavailable, mapping, full, delta}
@@ -127,4 +127,4 @@ pub record Spot (d : ℕ) (bs : List Book) (xs ys : List Level) (n i : ℕ) : Ty
   pub end_buys : i * d + d ≤ length xs
   pub end_sells : i * d + d ≤ length ys
   pub shows : book_of n (tabled d bs xs ys) ≡ Some (known (slice_index_or bs i blank) (take d (drop (i * d) xs)) (take d (drop (i * d) ys)))
-  pub counts : shown (book_of n (tabled d bs xs ys)) ≡ Some (record { whole = (get_or bs i blank).whole; touched = (get_or bs i blank).touched; buys = min (get_or bs i blank).buys d; sells = min (get_or bs i blank).sells d })
+  pub counts : shown (book_of n (tabled d bs xs ys)) ≡ Some (record { whole = (slice_index_or bs i blank).whole; touched = (slice_index_or bs i blank).touched; buys = min (slice_index_or bs i blank).buys d; sells = min (slice_index_or bs i blank).sells d })
