@@ -30,7 +30,7 @@ impl ChainShelf {
     /// The memory, given back.
     pub fn into_region(self) -> Vec<u8>
         ensures same { result ≡ self.region }
-        ensures size { vec_len result ≡ 64 * ((store (self.region.items)).total + 1) }
+        ensures size { vec_len result ≡ 64 * ((store self.region.items).total + 1) }
     {
         let ChainShelf { region } = self;
         region

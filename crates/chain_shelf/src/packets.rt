@@ -1,6 +1,6 @@
 //! Packets in the chains: laid in, found, taken out.
 ghost use Rattle.std.specs.Prelude.{◌≡◌, ℕ, ◌+◌, ◌-◌, ◌/◌, ◌%◌, ◌<◌, ◌≤◌, true, false, ◌⊎◌, [], length, if◌then◌else◌, Some};
-ghost use Rattle.chain_shelf.specs.Records.{mem, records, link, next, number as number_of_lem, size as type_size, tail, in_use, span, walk, cnt, Apart, Inside};
+ghost use Rattle.chain_shelf.specs.Records.{mem, records, link, next, number as number_of, size as size_of, tail, in_use, span, walk, cnt, Apart, Inside};
 ghost use Rattle.shelf.specs.Store.{has, insert, remove, lookup, above, length_of, written, right};
 ghost use Rattle.chain_shelf.specs.Chain.{held, spent, end, PriceLaw, PricesWorked, Whole, Kept, Before, LaidIn, TakenOut};
 
@@ -22,8 +22,8 @@ fn head(bytes: &mut [u8], index: usize, after: usize, number: u32, size: usize)
     requires after { after < 65536 }
     requires size { size < 65536 }
     ensures after { next (mem bytes.new) index ≡ after }
-    ensures number { number_of_lem (mem bytes.new) index ≡ number }
-    ensures size { type_size (mem bytes.new) index ≡ size }
+    ensures number { number_of (mem bytes.new) index ≡ number }
+    ensures size { size_of (mem bytes.new) index ≡ size }
     ensures others { (s q : ℕ) → q < 64 → (s ≡ index → (q < 2) ⊎ (10 ≤ q)) → mem bytes.new s q ≡ mem bytes.old s q }
 {
     write(bytes, index, NEXT, after);
@@ -90,8 +90,8 @@ fn unlink(bytes: &mut [u8], prev: usize, first: usize, stop: usize)
     requires first { first < records bytes.old }
     requires stop { stop < records bytes.old }
     requires some { 0 < stop }
-    requires size { type_size (mem bytes.old) first ≤ 1500 }
-    requires used { span 10 (type_size (mem bytes.old) first) ≤ in_use (mem bytes.old) }
+    requires size { size_of (mem bytes.old) first ≤ 1500 }
+    requires used { span 10 (size_of (mem bytes.old) first) ≤ in_use (mem bytes.old) }
     ensures { TakenOut (mem bytes.old) (mem bytes.new) prev first stop }
 {
     let after = read(bytes, first, NEXT);
