@@ -1,8 +1,7 @@
 -- Two lists of actions after a making.
-use Rattle.std.proofs.Common.{◌≡◌, true, List, [], ◌∷◌, ◌++◌, sym, ap, ◌∙◌, subst}
+use Rattle.std.proofs.Common.{◌≡◌, List, ◌++◌, sym, ap, ◌∙◌, subst}
 use Rattle.sink.specs.Events.{Event}
-use Rattle.order.specs.Machine.{made, History}
-use Rattle.channel.specs.States.{State}
+use Rattle.order.specs.Machine.{History}
 use Rattle.channel.specs.Follows.{Follows}
 use Rattle.channel.specs.Kept.{Promise}
 use Rattle.operator.specs.declared.action.Action.{Action}

@@ -2,7 +2,8 @@
 #![tactic(auto)]
 
 ghost use Rattle.std.specs.Prelude.{◌≡◌, true, ◌++◌, is_ok};
-ghost use Rattle.operator.specs.Desks.{desk};
+ghost use Rattle.channel.specs.Channels.{state};
+ghost use Rattle.operator.specs.Desks.{desk, IsOwn};
 ghost use Rattle.relay.specs.Relays.{Relayed};
 
 use channel::{Channel, ChannelFault, Claim};
@@ -22,7 +23,8 @@ fn relay<S: Sink, H: Shelf>(
     buffer: &mut [u8],
     replies: &mut [Reply],
 ) -> Result<(), ChannelFault>
-    ensures { is_ok result ≡ true → Relayed S.Sink.step (first.now ++ second.now) (desk (S.Sink) (H.Shelf) channel.old hand.old buffer.old) (desk (S.Sink) (H.Shelf) channel.new hand.new buffer.new) }
+    ensures own { IsOwn (state (S.Sink) (H.Shelf) channel.old) hand.old → IsOwn (state (S.Sink) (H.Shelf) channel.new) hand.new }
+    ensures relayed { is_ok result ≡ true → Relayed S.Sink.step (first.now ++ second.now) (desk (S.Sink) (H.Shelf) channel.old hand.old buffer.old) (desk (S.Sink) (H.Shelf) channel.new hand.new buffer.new) }
 {
     channel.make(7, b"RELAY", 1)?;
     run(channel, hand, first, buffer, replies);
@@ -60,12 +62,27 @@ fn shown(heap: Global, reply: Reply) -> Result<String, AllocError> {
     }
 }
 
+// Settles the claim in hand, which is the one that is out.
+fn put_down<S: Sink, H: Shelf>(channel: &mut Channel<S, H>, hand: Option<Claim>)
+    requires { IsOwn (state (S.Sink) (H.Shelf) channel.old) hand }
+{
+    if let Some(claim) = hand {
+        match channel.settle(claim) {
+            Ok(_missing) => {}
+            Err(_refused) => unreachable(),
+        }
+    }
+}
+
 // The first operator sees 1 and 3 and claims the gap; the second gets 2, twice, and settles.
-fn show<S: Sink>(
+fn show<S: Sink, H: Shelf>(
     rt: &HostRuntime,
-    channel: &mut Channel<S, SlotShelf>,
+    channel: &mut Channel<S, H>,
     hand: &mut Option<Claim>,
-) -> anyhow::Result<()> {
+) -> anyhow::Result<()>
+    requires { IsOwn (state (S.Sink) (H.Shelf) channel.old) hand.old }
+    ensures { IsOwn (state (S.Sink) (H.Shelf) channel.new) hand.new }
+{
     let heap = rt.alloc();
     let first = [
         mapping(heap, 1)?,
@@ -83,13 +100,7 @@ fn show<S: Sink>(
     Ok(())
 }
 
-/// Why the program ends early: a fault, or a claim that its channel does not settle.
-enum Stop {
-    Fault(anyhow::Error),
-    Claim(Claim),
-}
-
-fn main(rt: HostRuntime) -> Result<(), Stop> {
+fn main(rt: HostRuntime) -> anyhow::Result<()> {
     let mut rows = [Row {
         index: 0,
         executed: 0,
@@ -97,13 +108,6 @@ fn main(rt: HostRuntime) -> Result<(), Stop> {
     let mut channel = Channel::new(Tally::new(&mut rows), SlotShelf::new());
     let mut hand = None;
     let end = show(&rt, &mut channel, &mut hand);
-    if let Some(claim) = hand {
-        if let Err((_, claim)) = channel.settle(claim) {
-            return Err(Stop::Claim(claim));
-        }
-    }
-    match end {
-        Ok(()) => Ok(()),
-        Err(fault) => Err(Stop::Fault(fault)),
-    }
+    put_down(&mut channel, hand);
+    end
 }
