@@ -1,6 +1,10 @@
 //! The handler's console: reads a script and prints the answer to each line.
 #![tactic(auto)]
 
+ghost use Rattle.channel.specs.Channels.{state};
+ghost use Rattle.operator.specs.Desks.{IsOwn};
+ghost use Rattle.session.specs.Commands.{board};
+
 use any_shelf::AnyShelf;
 use anyhow::anyhow;
 use books::{Book, BookKeeper, Level, Tables};
@@ -10,11 +14,9 @@ use script::{Command, Setup, parse};
 use session::{Board, answer, answer_alone, open_shelf, table_sizes};
 use shelf::{Quota, Shelf};
 use sink::Twin;
-use std::alloc::AllocError;
-use std::fmt::Debug;
+use std::env;
 use std::fs::File;
 use std::io::{BufRead, BufReader, Split};
-use std::{env, fmt};
 use tally::{Row, Tally};
 
 mod help;
@@ -24,34 +26,6 @@ use help::HELP;
 // The longest packet, which an offer needs as scratch.
 const SCRATCH: usize = 1500;
 
-/// Why the program ends before the end of its script.
-enum Stop {
-    Fault(anyhow::Error),
-    /// A claim that its channel does not settle.
-    Claim(Claim),
-}
-
-impl Debug for Stop {
-    fn fmt<W: fmt::Write>(&self, f: &mut fmt::Formatter<W>) -> fmt::Result {
-        match self {
-            Stop::Fault(fault) => write!(f, "{fault:?}"),
-            Stop::Claim(_) => write!(f, "a claim was not settled"),
-        }
-    }
-}
-
-impl From<anyhow::Error> for Stop {
-    fn from(fault: anyhow::Error) -> Stop {
-        Stop::Fault(fault)
-    }
-}
-
-impl From<AllocError> for Stop {
-    fn from(fault: AllocError) -> Stop {
-        Stop::Fault(fault.into())
-    }
-}
-
 // Answers lines until a setup, which is given, or the end.
 fn serve<B: BufRead + Drop, H: Shelf>(
     rt: &HostRuntime,
@@ -59,7 +33,10 @@ fn serve<B: BufRead + Drop, H: Shelf>(
     channel: &mut Channel<Board<'_, '_, '_, '_>, H>,
     hand: &mut Option<Claim>,
     scratch: &mut [u8],
-) -> anyhow::Result<Option<Setup>> {
+) -> anyhow::Result<Option<Setup>>
+    requires { IsOwn (state board (H.Shelf) channel.old) hand.old }
+    ensures { IsOwn (state board (H.Shelf) channel.new) hand.new }
+{
     let heap = rt.alloc();
     for _ in 0..u64::MAX {
         let Some(line) = lines.next() else {
@@ -93,24 +70,29 @@ fn serve_alone<B: BufRead + Drop>(
     Ok(None)
 }
 
+// Settles the claim in hand, which is the one that is out.
+fn put_down<H: Shelf>(channel: &mut Channel<Board<'_, '_, '_, '_>, H>, hand: Option<Claim>)
+    requires { IsOwn (state board (H.Shelf) channel.old) hand }
+{
+    if let Some(claim) = hand {
+        match channel.settle(claim) {
+            Ok(_missing) => {}
+            Err(_refused) => unreachable(),
+        }
+    }
+}
+
 // The same, with the claim in hand until it is settled.
 fn serve_channel<B: BufRead + Drop, H: Shelf>(
     rt: &HostRuntime,
     lines: &mut Split<B>,
     channel: &mut Channel<Board<'_, '_, '_, '_>, H>,
-) -> Result<Option<Setup>, Stop> {
+) -> anyhow::Result<Option<Setup>> {
     let mut hand = None;
     let mut scratch = [0; SCRATCH];
     let end = serve(rt, lines, channel, &mut hand, &mut scratch);
-    if let Some(claim) = hand {
-        if let Err((_, claim)) = channel.settle(claim) {
-            return Err(Stop::Claim(claim));
-        }
-    }
-    match end {
-        Ok(setup) => Ok(setup),
-        Err(fault) => Err(Stop::Fault(fault)),
-    }
+    put_down(channel, hand);
+    end
 }
 
 fn print(rt: &HostRuntime, text: String) -> anyhow::Result<()> {
@@ -124,7 +106,7 @@ fn serve_tables<B: BufRead + Drop>(
     lines: &mut Split<B>,
     setup: Setup,
     shelf: AnyShelf,
-) -> Result<Option<Setup>, Stop> {
+) -> anyhow::Result<Option<Setup>> {
     let heap = rt.alloc();
     let sizes = table_sizes(setup);
     let mut books = vec![in heap; Book::UNKNOWN; sizes.books]?;
@@ -157,7 +139,7 @@ fn serve_tables<B: BufRead + Drop>(
         }
         Err(fault) => {
             print(rt, refused_text(heap, fault.number())?)?;
-            Ok(serve_alone(rt, lines)?)
+            serve_alone(rt, lines)
         }
     }
 }
@@ -167,17 +149,17 @@ fn serve_setup<B: BufRead + Drop>(
     rt: &HostRuntime,
     lines: &mut Split<B>,
     setup: Setup,
-) -> Result<Option<Setup>, Stop> {
+) -> anyhow::Result<Option<Setup>> {
     match open_shelf(rt.alloc(), setup.shelf)? {
         Ok(shelf) => serve_tables(rt, lines, setup, shelf),
         Err(fault) => {
             print(rt, refused_text(rt.alloc(), fault.number())?)?;
-            Ok(serve_alone(rt, lines)?)
+            serve_alone(rt, lines)
         }
     }
 }
 
-fn run_script<B: BufRead + Drop>(rt: &HostRuntime, script: B) -> Result<(), Stop> {
+fn run_script<B: BufRead + Drop>(rt: &HostRuntime, script: B) -> anyhow::Result<()> {
     let mut lines = script.split(rt.alloc(), b'\n');
     let mut next = serve_alone(rt, &mut lines)?;
     for _ in 0..u64::MAX {
@@ -202,25 +184,20 @@ fn first_argument(rt: &HostRuntime) -> anyhow::Result<Option<String>> {
     Ok(args.next())
 }
 
-fn run(rt: &HostRuntime) -> Result<(), Stop> {
+fn run(rt: &HostRuntime) -> anyhow::Result<()> {
     match first_argument(rt)? {
-        None => run_script(
-            rt,
-            BufReader::new(rt.alloc(), rt.stdin()).map_err(|_| std::alloc::AllocError)?,
-        ),
+        None => run_script(rt, BufReader::new(rt.alloc(), rt.stdin())?),
         Some(word) if word.as_str() == "--help" => {
             print(rt, String::from_str(rt.alloc(), HELP)?)?;
             Ok(())
         }
         Some(name) => run_script(
             rt,
-            BufReader::new(rt.alloc(), open_script(rt, name.as_str())?).map_err(
-                |_| std::alloc::AllocError,
-            )?,
+            BufReader::new(rt.alloc(), open_script(rt, name.as_str())?)?,
         ),
     }
 }
 
-fn main(rt: HostRuntime) -> Result<(), Stop> {
+fn main(rt: HostRuntime) -> anyhow::Result<()> {
     run(&rt)
 }
