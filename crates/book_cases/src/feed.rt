@@ -67,16 +67,6 @@ fn letter(point: Point) -> u8 {
     if point.buy { b'B' } else { b'S' }
 }
 
-// Only an execution counts, so the other reasons are any of the three.
-fn reason(point: Point) -> u8 {
-    match (point.executed, point.volume % 3) {
-        (true, _) => b'E',
-        (false, 0) => b'O',
-        (false, 1) => b'C',
-        (false, _) => b'X',
-    }
-}
-
 /// The points of a full update.
 pub fn full_bytes(heap: Global, points: &[Point], scale: u8) -> Result<Vec<u8>, AllocError> {
     let mut bytes = Vec::new(heap);
@@ -97,22 +87,8 @@ pub fn delta_bytes(heap: Global, points: &[Point], scale: u8) -> Result<Vec<u8>,
         push_u32(&mut bytes, point.volume)?;
         push_u32(&mut bytes, point.changed)?;
         push_u16(&mut bytes, point.orders)?;
-        bytes.extend_from_slice(&[
-            letter(*point),
-            reason(*point),
-            0,
-            0,
-            0,
-            7,
-            0,
-            0,
-            0,
-            0,
-            0,
-            0,
-            0,
-            0,
-        ])?;
+        let reason = if point.executed { b'E' } else { b'O' };
+        bytes.extend_from_slice(&[letter(*point), reason, 0, 0, 0, 7, 0, 0, 0, 0, 0, 0, 0, 0])?;
     }
     Ok(bytes)
 }
