@@ -19,21 +19,13 @@ pub struct ChainShelf {
 
 impl ChainShelf {
     /// An empty shelf in a region.
+    // Kept as a constructor, not a `From`: what lay in the region is lost.
     pub fn new(region: Region) -> ChainShelf
         ensures { store result.region.items ≡ fresh (vec_len region.bytes) }
     {
-        let mut region = region.into_bytes();
+        let mut region = Vec::from(region);
         free_all(&mut region[..]);
         ChainShelf { region }
-    }
-
-    /// The memory, given back.
-    pub fn into_region(self) -> Vec<u8>
-        ensures same { result ≡ self.region }
-        ensures size { vec_len result ≡ 64 * ((store self.region.items).total + 1) }
-    {
-        let ChainShelf { region } = self;
-        region
     }
 
     // The first record of the last packet whose number is below the given one, or 0: a walk from the first packet.
@@ -113,6 +105,16 @@ impl ChainShelf {
         let stop = copy(bytes, first, BODY, &mut buffer[..size]);
         unlink(bytes, prev, first, stop);
         size
+    }
+}
+
+/// The memory, given back.
+impl From<ChainShelf> for Vec<u8> {
+    ghost from_gives = { λ shelf bytes. (bytes ≡ shelf.region) × (vec_len bytes ≡ 64 * ((store shelf.region.items).total + 1)) };
+
+    fn from(shelf: ChainShelf) -> Vec<u8> {
+        let ChainShelf { region } = shelf;
+        region
     }
 }
 

@@ -36,7 +36,7 @@ invariant_of-self c =
     let k = c.args.number in
     let x = sym c.deref_mut.ensures.value in
     let z = put_kept b w k c.args.prev c.args.packet.now (subst Kept x c.args.self.now.kept) (subst (λ b. Before b k c.args.prev) x c.requires.prev) c.requires.proper
-        (ap (λ b. has (held b) k) (sym x) ∙ c.requires.absent) (omega arith) (subst (λ b. spent b + n ≤ records b - 1) x c.requires.room) c.lay_packet.ensures c.lay_packet.auto.bytes in
+    (ap (λ b. has (held b) k) (sym x) ∙ c.requires.absent) (omega arith) (subst (λ b. spent b + n ≤ records b - 1) x c.requires.room) c.lay_packet.ensures c.lay_packet.auto.bytes in
     record { kept = subst Kept (sym (take_at w (drop (length w) v.items) v.len (c.lay_packet.auto.bytes ∙ c.deref_mut.ensures.len))) z.0 }
 
 pub returns : goal.returns
@@ -48,7 +48,7 @@ returns c =
     let k = c.args.number in
     let x = sym c.deref_mut.ensures.value in
     let z = put_kept b w k c.args.prev c.args.packet.now (subst Kept x c.args.self.now.kept) (subst (λ b. Before b k c.args.prev) x c.requires.prev) c.requires.proper
-        (ap (λ b. has (held b) k) (sym x) ∙ c.requires.absent) (omega arith) (subst (λ b. spent b + n ≤ records b - 1) x c.requires.room) c.lay_packet.ensures c.lay_packet.auto.bytes in
+    (ap (λ b. has (held b) k) (sym x) ∙ c.requires.absent) (omega arith) (subst (λ b. spent b + n ≤ records b - 1) x c.requires.room) c.lay_packet.ensures c.lay_packet.auto.bytes in
     let e = take_at w (drop (length w) v.items) v.len (c.lay_packet.auto.bytes ∙ c.deref_mut.ensures.len) in
     record {
       held = ap held e ∙ z.1 ∙ ap (λ b. insert k c.args.packet.now (held b)) (sym x);
