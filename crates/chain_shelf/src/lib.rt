@@ -19,4 +19,4 @@ mod region;
 
 pub use chain_shelf::ChainShelf;
 pub use packets::price_of;
-pub use region::{Region, RegionFault};
+pub use region::{Region, RegionFault, region_sizes};

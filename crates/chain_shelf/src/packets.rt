@@ -1,12 +1,10 @@
-//! Packets in the chains: laid in, found, taken out.
-ghost use Rattle.std.specs.Prelude.{◌≡◌, ℕ, ◌+◌, ◌-◌, ◌/◌, ◌%◌, ◌<◌, ◌≤◌, true, false, ◌⊎◌, [], length, if◌then◌else◌, Some};
+//! Packets in the chains: laid in, taken out.
+ghost use Rattle.std.specs.Prelude.{◌≡◌, ℕ, ◌+◌, ◌-◌, ◌/◌, ◌%◌, ◌<◌, ◌≤◌, ◌⊎◌, [], length, if◌then◌else◌};
 ghost use Rattle.chain_shelf.specs.Records.{mem, records, link, next, number as number_of, size as size_of, tail, in_use, span, walk, cnt, Apart, Inside};
-ghost use Rattle.shelf.specs.Store.{has, insert, remove, lookup, above, length_of, written, right};
-ghost use Rattle.chain_shelf.specs.Chain.{held, spent, end, PriceLaw, PricesWorked, Whole, Kept, Before, LaidIn, TakenOut};
+ghost use Rattle.shelf.specs.Store.{right};
+ghost use Rattle.chain_shelf.specs.Chain.{held, end, PriceLaw, PricesWorked, Whole, Kept, LaidIn, TakenOut};
 
-use crate::records::{
-    BODY, LAST, LINK, MORE, NEXT, NUMBER, SIZE, USED, WORD, copy, fill, number_at, read, write,
-};
+use crate::records::{BODY, LAST, LINK, MORE, NEXT, NUMBER, SIZE, USED, WORD, fill, read, write};
 use crate::region::RECORD;
 use shelf::{LONGEST, SHORTEST};
 
@@ -62,7 +60,7 @@ fn end_of(bytes: &[u8], after: usize, first: usize) -> usize
 }
 
 /// Lays a packet into the first free records, behind the packet whose first record is `prev`.
-fn lay_packet(bytes: &mut [u8], prev: usize, number: u32, packet: &[u8])
+pub(crate) fn lay_packet(bytes: &mut [u8], prev: usize, number: u32, packet: &[u8])
     requires prev { prev < records bytes.old }
     requires size { length packet.now ≤ 1500 }
     requires few { in_use (mem bytes.old) + span 10 (length packet.now) < 65536 }
@@ -84,7 +82,7 @@ fn lay_packet(bytes: &mut [u8], prev: usize, number: u32, packet: &[u8])
 }
 
 /// Takes the packet at `first` out of the chain, behind the one at `prev`, and frees its records, up to the one at `stop`.
-fn unlink(bytes: &mut [u8], prev: usize, first: usize, stop: usize)
+pub(crate) fn unlink(bytes: &mut [u8], prev: usize, first: usize, stop: usize)
     requires most { records bytes.old ≤ 65535 }
     requires prev { prev < records bytes.old }
     requires first { first < records bytes.old }
@@ -101,60 +99,6 @@ fn unlink(bytes: &mut [u8], prev: usize, first: usize, stop: usize)
     write(bytes, prev, NEXT, after);
     write(bytes, stop, LINK, free);
     lead(bytes, first, last, used);
-}
-
-/// Whether the packet behind the one at `prev` has the number.
-pub(crate) fn stands_behind(bytes: &[u8], prev: usize, number: u32) -> bool
-    requires kept { Kept bytes.now }
-    requires prev { Before bytes.now number prev }
-    ensures { result ≡ has (held bytes.now) number }
-{
-    let at = read(bytes, prev, NEXT);
-    at != 0 && number_at(bytes, at) == number as u64
-}
-
-/// The number of the packet behind the one at `prev`: the least above the given number.
-pub(crate) fn number_behind(bytes: &[u8], prev: usize, number: u32) -> Option<u32>
-    requires kept { Kept bytes.now }
-    requires prev { Before bytes.now (number + 1) prev }
-    ensures { result ≡ above (held bytes.now) number }
-{
-    let at = read(bytes, prev, NEXT);
-    if at == 0 {
-        return None;
-    }
-    Some(number_at(bytes, at) as u32)
-}
-
-/// Keeps a packet behind the one at `prev`.
-pub(crate) fn put_behind(bytes: &mut [u8], prev: usize, number: u32, packet: &[u8])
-    requires kept { Kept bytes.old }
-    requires prev { Before bytes.old number prev }
-    requires proper { right (length packet.now) ≡ true }
-    requires absent { has (held bytes.old) number ≡ false }
-    requires room { spent bytes.old + span 10 (length packet.now) ≤ records bytes.old - 1 }
-    ensures kept { Kept bytes.new }
-    ensures held { held bytes.new ≡ insert number packet.now (held bytes.old) }
-{
-    lay_packet(bytes, prev, number, packet);
-}
-
-/// Moves the packet behind the one at `prev` to the front of the buffer, and answers its length.
-pub(crate) fn take_behind(bytes: &mut [u8], prev: usize, number: u32, buffer: &mut [u8]) -> usize
-    requires kept { Kept bytes.old }
-    requires prev { Before bytes.old number prev }
-    requires long { 1500 ≤ length buffer.old }
-    requires present { has (held bytes.old) number ≡ true }
-    ensures kept { Kept bytes.new }
-    ensures held { held bytes.new ≡ remove number (held bytes.old) }
-    ensures size { Some result ≡ length_of (lookup (held bytes.old) number) }
-    ensures buffer { buffer.new ≡ written (lookup (held bytes.old) number) buffer.old }
-{
-    let first = read(bytes, prev, NEXT);
-    let size = read(bytes, first, SIZE);
-    let stop = copy(bytes, first, BODY, &mut buffer[0..size]);
-    unlink(bytes, prev, first, stop);
-    size
 }
 
 /// The records that a packet of a length takes.
@@ -178,14 +122,6 @@ pub fn price_of(length: usize) -> u32
         return 0;
     }
     span_of(length) as u32
-}
-
-/// The records that are in use.
-pub(crate) fn used_in(bytes: &[u8]) -> u32
-    requires { Kept bytes.now }
-    ensures { result ≡ spent bytes.now }
-{
-    read(bytes, 0, USED) as u32
 }
 
 /// Frees every record, in order.

@@ -1,7 +1,6 @@
 //! Records and chains of records.
 ghost use Rattle.std.specs.Prelude.{◌≡◌, ℕ, ◌+◌, ◌-◌, ◌*◌, ◌/◌, ◌%◌, ◌<◌, ◌≤◌, ◌⊎◌, length};
 ghost use Rattle.chain_shelf.specs.Records.{mem, records, word, link, number, cut, span, walk, gather, cnt, Apart, Inside, last};
-ghost use Rattle.chain_shelf.specs.Chain.{Kept, Before};
 
 use crate::region::RECORD;
 
@@ -110,30 +109,4 @@ pub(crate) fn number_at(bytes: &[u8], index: usize) -> u64
     ensures small { result < 4294967296 }
 {
     read(bytes, index, NUMBER) as u64 + WORD as u64 * (read(bytes, index, NUMBER + 2) as u64)
-}
-
-/// The first record of the last packet whose number is below the given one, or 0: a walk from the first packet.
-fn walk_to(bytes: &[u8], number: u64) -> usize
-    requires { Kept bytes.now }
-    ensures { Before bytes.now number result }
-{
-    let mut prev = 0;
-    let mut at = read(bytes, 0, NEXT);
-    while at != 0 && number_at(bytes, at) < number {
-        prev = at;
-        at = read(bytes, at, NEXT);
-    }
-    prev
-}
-
-/// The same, with no walk where the number is above every number held.
-pub(crate) fn seek(bytes: &[u8], number: u64) -> usize
-    requires { Kept bytes.now }
-    ensures { Before bytes.now number result }
-{
-    let last = read(bytes, 0, LAST);
-    if last == 0 || number_at(bytes, last) < number {
-        return last;
-    }
-    walk_to(bytes, number)
 }

@@ -1,20 +1,21 @@
-use Rattle.std.proofs.Common.{◌≡◌, sym, ap, ◌∙◌, inl, inr, arith}
+use Rattle.std.proofs.Common.{◌≡◌, sym, ap, ◌∙◌, subst, inl, inr, arith}
 use Rattle.chain_shelf.specs.Records.{mem, number, tail}
 use Rattle.chain_shelf.proofs.Finds.{tail_below, all_under}
+use Rattle.chain_shelf.specs.Chain.{Kept, Before}
 use Rattle.chain_shelf.specs.Sounds.{opened}
-use Rattle.chain_shelf.proofs.records.seek.Goals as goal
-use Rattle.chain_shelf.proofs.records.seek.Goals.{then-last-eq0-via-then-last-eq0, then-last-eq0-via-else-last-eq0+then-number_at-number}
+use Rattle.chain_shelf.proofs.chain_shelf.ChainShelf.seek.Goals as goal
+use Rattle.chain_shelf.proofs.chain_shelf.ChainShelf.seek.Goals.{then-last-eq0-via-then-last-eq0, then-last-eq0-via-else-last-eq0+then-number_at-number}
 
 pub number_at-requires : goal.number_at-requires
 number_at-requires c =
-    let b = c.args.bytes.now in
+    let b = c.deref.result.now in
     let e : c.read-last.result ≡ tail (mem b) = c.read-last.ensures.is in
-    omega (arith, tail_below b (opened b c.requires))
+    omega (arith, tail_below b (opened b (subst Kept (sym c.deref.ensures.value) c.args.self.now.kept)))
 
 pub returns-then-last-eq0 : goal.returns-then-last-eq0
 returns-then-last-eq0 c =
-    let b = c.args.bytes.now in
-    let s = opened b c.requires in
+    let b = c.deref.result.now in
+    let s = opened b (subst Kept (sym c.deref.ensures.value) c.args.self.now.kept) in
     let k = c.args.number in
     let e : c.read-last.result ≡ tail (mem b) = c.read-last.ensures.is in
     let f : tail (mem b) ≡ _ =
@@ -23,4 +24,4 @@ returns-then-last-eq0 c =
       | then-last-eq0-via-else-last-eq0+then-number_at-number w ↦
           all_under b k s (inr (omega (arith, ap (number (mem b)) e, w.number_at.ensures.is, w.if-number_at-number.true)))
     ] in
-    record { is = e ∙ f; within = omega (arith, tail_below b s) }
+    subst (λ b. Before b k c.read-last.result) c.deref.ensures.value (record { is = e ∙ f; within = omega (arith, tail_below b s) })
