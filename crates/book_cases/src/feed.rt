@@ -1,26 +1,97 @@
-//! Random points, and the bytes of a message that names them.
-use crate::plain::{Point, Sides};
+//! Random updates, and the bytes of their points.
+use crate::plain::Point;
+use books::Level;
 use random::Random;
 use std::alloc::{AllocError, Global};
+use wire::{Message, Reason, Side};
+
+/// The books of a trial.
+pub const BOOKS: u16 = 4;
 
 const TENTH: u64 = 100_000_000;
 
-const POWERS: [u32; 10] = [
-    1,
-    10,
-    100,
-    1_000,
-    10_000,
-    100_000,
-    1_000_000,
-    10_000_000,
-    100_000_000,
-    1_000_000_000,
-];
+#[derive(Clone, Copy, PartialEq, Eq, Debug)]
+pub enum Kind {
+    Full,
+    Delta,
+}
 
-/// A random point at one of so many prices: whole dollars at scale 0, tenths of a dollar at the others.
-pub fn any_point(random: &mut Random, scale: u8, prices: u32) -> Point {
-    let price = if scale == 0 {
+/// An update of the book of one index.
+#[derive(Drop)]
+pub struct Update {
+    pub kind: Kind,
+    pub index: u16,
+    pub scale: u8,
+    pub points: Vec<Point>,
+}
+
+impl Update {
+    /// A random update, also of an index that no book has.
+    pub fn any(heap: Global, random: &mut Random, prices: u32) -> Result<Update, AllocError> {
+        let kind = if random.below(8) == 0 {
+            Kind::Full
+        } else {
+            Kind::Delta
+        };
+        let index = random.below(u32::from(BOOKS) + 2) as u16;
+        let scale = random.below(10) as u8;
+        let mut points = Vec::new(heap);
+        for _ in 0..random.below(4) + 1 {
+            points.push(any_point(random, scale, prices))?;
+        }
+        Ok(Update {
+            kind,
+            index,
+            scale,
+            points,
+        })
+    }
+
+    /// The bytes of its points.
+    pub fn bytes(&self, heap: Global) -> Result<Vec<u8>, AllocError> {
+        let mut bytes = Vec::new(heap);
+        for point in &self.points {
+            let level = point.level;
+            bytes.extend_from_slice(&numerator(level.price, self.scale).to_be_bytes())?;
+            bytes.extend_from_slice(&level.volume.to_be_bytes())?;
+            if self.kind == Kind::Delta {
+                bytes.extend_from_slice(&point.changed.to_be_bytes())?;
+            }
+            bytes.extend_from_slice(&level.orders.to_be_bytes())?;
+            bytes.push(u8::from(point.side))?;
+            match self.kind {
+                Kind::Full => bytes.push(0)?,
+                Kind::Delta => {
+                    bytes.push(u8::from(point.reason))?;
+                    bytes.extend_from_slice(&[0, 0, 0, 7, 0, 0, 0, 0, 0, 0, 0, 0])?;
+                }
+            }
+        }
+        Ok(bytes)
+    }
+
+    /// Its message, over the bytes of its points.
+    pub fn message<'a>(&self, points: &'a [u8]) -> Message<'a> {
+        let index = self.index;
+        let scale = self.scale;
+        match self.kind {
+            Kind::Full => Message::Full {
+                index,
+                scale,
+                points,
+            },
+            Kind::Delta => Message::Delta {
+                index,
+                scale,
+                points,
+            },
+        }
+    }
+}
+
+// A random point at one of so many prices: whole dollars at scale 0, tenths of a dollar at the others.
+fn any_point(random: &mut Random, scale: u8, prices: u32) -> Point {
+    let tenths = if scale == 0 {
         (1 + u64::from(random.below(4))) * 10
     } else {
         1 + u64::from(random.below(prices.min(40)))
@@ -35,83 +106,34 @@ pub fn any_point(random: &mut Random, scale: u8, prices: u32) -> Point {
     } else {
         random.below(500)
     };
+    let side = if random.below(2) == 0 {
+        Side::Buy
+    } else {
+        Side::Sell
+    };
+    let orders = random.below(90) as u16;
+    let reason = if random.below(3) == 0 {
+        Reason::Execution
+    } else {
+        Reason::Order
+    };
     Point {
-        buy: random.below(2) == 0,
-        price: price.wrapping_mul(TENTH),
-        volume,
-        orders: random.below(90) as u16,
-        executed: random.below(3) == 0,
+        side,
+        level: Level {
+            price: tenths * TENTH,
+            volume,
+            orders,
+        },
+        reason,
         changed,
     }
 }
 
-/// The numerator of a price at a scale; prices are tenths of a dollar, and at scale 0 whole dollars.
+// The numerator of a price at a scale; prices are tenths of a dollar, and at scale 0 whole dollars.
 fn numerator(price: u64, scale: u8) -> u32 {
     let tenths = (price / TENTH % 100) as u32;
-    match usize::from(scale) {
-        0 => tenths / 10,
-        at if at < POWERS.len() => tenths.wrapping_mul(POWERS[at - 1]),
-        _ => 0,
+    match scale.checked_sub(1) {
+        None => tenths / 10,
+        Some(places) => tenths.saturating_mul(10u32.saturating_pow(u32::from(places))),
     }
-}
-
-fn push_u16(bytes: &mut Vec<u8>, value: u16) -> Result<(), AllocError> {
-    bytes.extend_from_slice(&value.to_be_bytes())
-}
-
-fn push_u32(bytes: &mut Vec<u8>, value: u32) -> Result<(), AllocError> {
-    bytes.extend_from_slice(&value.to_be_bytes())
-}
-
-fn letter(point: Point) -> u8 {
-    if point.buy { b'B' } else { b'S' }
-}
-
-/// The points of a full update.
-pub fn full_bytes(heap: Global, points: &[Point], scale: u8) -> Result<Vec<u8>, AllocError> {
-    let mut bytes = Vec::new(heap);
-    for point in points {
-        push_u32(&mut bytes, numerator(point.price, scale))?;
-        push_u32(&mut bytes, point.volume)?;
-        push_u16(&mut bytes, point.orders)?;
-        bytes.extend_from_slice(&[letter(*point), 0])?;
-    }
-    Ok(bytes)
-}
-
-/// The points of a delta.
-pub fn delta_bytes(heap: Global, points: &[Point], scale: u8) -> Result<Vec<u8>, AllocError> {
-    let mut bytes = Vec::new(heap);
-    for point in points {
-        push_u32(&mut bytes, numerator(point.price, scale))?;
-        push_u32(&mut bytes, point.volume)?;
-        push_u32(&mut bytes, point.changed)?;
-        push_u16(&mut bytes, point.orders)?;
-        let reason = if point.executed { b'E' } else { b'O' };
-        bytes.extend_from_slice(&[letter(*point), reason, 0, 0, 0, 7, 0, 0, 0, 0, 0, 0, 0, 0])?;
-    }
-    Ok(bytes)
-}
-
-fn level_point(buy: bool, price: u64, volume: u32, orders: u16) -> Point {
-    Point {
-        buy,
-        price,
-        volume,
-        orders,
-        executed: false,
-        changed: 0,
-    }
-}
-
-/// The points of a whole book.
-pub fn book_points(heap: Global, sides: &Sides) -> Result<Vec<Point>, AllocError> {
-    let mut points = Vec::new(heap);
-    for (price, level) in sides.buys.iter() {
-        points.push(level_point(true, *price, level.0, level.1))?;
-    }
-    for (price, level) in sides.sells.iter() {
-        points.push(level_point(false, *price, level.0, level.1))?;
-    }
-    Ok(points)
 }

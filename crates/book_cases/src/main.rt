@@ -4,19 +4,18 @@
 mod feed;
 mod plain;
 
-use anyhow::anyhow;
+use anyhow::{anyhow, ensure};
 use books::{Book, BookKeeper, Level, Tables};
-use feed::{any_point, book_points, delta_bytes, full_bytes};
-use plain::{Point, Sides, Volumes};
+use feed::{BOOKS, Kind, Update};
+use plain::{Sides, Volumes};
 use random::Random;
 use sink::{Sink, Twin};
 use std::alloc::{AllocError, Global};
+use std::collections::BTreeMap;
 use tally::{Row, Tally};
-use wire::{Message, Side, read};
+use wire::{Side, read};
 
 const EVENTS: u32 = 10_000;
-
-const BOOKS: u16 = 4;
 
 const MAPPING: [u8; 30] = [
     0, 28, 0, 35, 0, 0, 0, 1, 0, 0, 0, 0, 115, 1, 1, 0, 0, 0, 0, 0, 0, 0, 0, 0, 0, 0, 0, 0, 0, 0,
@@ -36,12 +35,12 @@ const OLD_LEVEL: Level = Level {
     orders: 7,
 };
 
-// What stands beside the proved sinks: the books as they should be kept, the books as they are in truth, and as they were some time ago.
+// What stands beside the proved sinks, by index: the books as they should be kept, the books as they are in truth, and as they were some time ago.
 #[derive(Drop)]
 struct Beside {
-    kept: Vec<plain::Book>,
-    truth: Vec<Sides>,
-    old: Vec<Sides>,
+    kept: BTreeMap<u16, plain::Book>,
+    truth: BTreeMap<u16, Sides>,
+    old: BTreeMap<u16, Sides>,
     old_number: u32,
     mark: u32,
     volumes: Volumes,
@@ -51,50 +50,22 @@ struct Beside {
     overflows: u32,
 }
 
-fn agree(same: bool, what: &str) -> anyhow::Result<()> {
-    if same { Ok(()) } else { Err(anyhow!("{what}")) }
-}
-
-fn copied(heap: Global, sides: &Sides) -> Result<Sides, AllocError> {
-    let mut copy = Sides::new(heap);
-    let points = book_points(heap, sides)?;
-    for point in points.as_slice() {
-        copy.enter(*point)?;
-    }
-    Ok(copy)
-}
-
-fn any_points(
-    heap: Global,
-    random: &mut Random,
-    scale: u8,
-    prices: u32,
-) -> Result<Vec<Point>, AllocError> {
-    let mut points = Vec::new(heap);
-    for _ in 0..random.below(4) + 1 {
-        points.push(any_point(random, scale, prices))?;
-    }
-    Ok(points)
-}
-
 impl Beside {
     fn new(heap: Global, depth: usize, room: usize) -> Result<Beside, AllocError> {
-        let mut kept = Vec::new(heap);
-        let mut truth = Vec::new(heap);
-        let mut old = Vec::new(heap);
-        for _ in 0..BOOKS {
-            kept.push(plain::Book::new(heap))?;
-            truth.push(Sides::new(heap))?;
-            old.push(Sides::new(heap))?;
+        let mut kept = BTreeMap::new(heap);
+        let mut truth = BTreeMap::new(heap);
+        for index in 1..=BOOKS {
+            kept.insert(index, plain::Book::new(heap))?;
+            truth.insert(index, Sides::new(heap))?;
         }
-        let volumes = Volumes::new(heap, room);
+        let old = truth.clone()?;
         Ok(Beside {
             kept,
             truth,
             old,
             old_number: 0,
             mark: 0,
-            volumes,
+            volumes: Volumes::new(heap, room),
             depth,
             used_refreshes: 0,
             whole_seen: 0,
@@ -102,68 +73,49 @@ impl Beside {
         })
     }
 
-    fn forget(&mut self, heap: Global, mark: u32) {
+    fn forget(&mut self, mark: u32) {
         self.mark = mark;
-        for book in self.kept.iter_mut() {
-            book.forget(heap);
+        for book in self.kept.values_mut() {
+            book.forget();
         }
     }
 
     // The truth moves on, whether the message is seen or not.
-    fn happen(
-        &mut self,
-        heap: Global,
-        index: u16,
-        points: &[Point],
-        full: bool,
-    ) -> Result<(), AllocError> {
-        if let Some(sides) = self.truth.get_mut(usize::from(index).wrapping_sub(1)) {
-            if full {
-                sides.clear(heap);
+    fn happen(&mut self, update: &Update) -> Result<(), AllocError> {
+        if let Some(sides) = self.truth.get_mut(&update.index) {
+            if update.kind == Kind::Full {
+                sides.clear();
             }
-            for point in points {
+            for point in &update.points {
                 sides.enter(*point)?;
             }
         }
         Ok(())
     }
 
-    fn hear(
-        &mut self,
-        heap: Global,
-        number: u32,
-        index: u16,
-        points: &[Point],
-        full: bool,
-    ) -> Result<(), AllocError> {
-        let depth = self.depth;
-        if let Some(book) = self.kept.get_mut(usize::from(index).wrapping_sub(1)) {
+    fn hear(&mut self, number: u32, update: &Update) -> Result<(), AllocError> {
+        if let Some(book) = self.kept.get_mut(&update.index) {
             book.touched = number;
-            if full {
-                book.begin(heap);
+            if update.kind == Kind::Full {
+                book.begin();
             }
             let before = book.whole;
-            book.fill(heap, points, depth)?;
+            book.fill(update.points.as_slice(), self.depth)?;
             if before && !book.whole {
                 self.overflows = self.overflows.saturating_add(1);
             }
         }
+        if update.kind == Kind::Delta {
+            self.volumes.add(update.index, update.points.as_slice())?;
+        }
         Ok(())
     }
 
-    fn refresh(
-        &mut self,
-        heap: Global,
-        number: u32,
-        index: u16,
-        points: &[Point],
-    ) -> Result<(), AllocError> {
-        let depth = self.depth;
-        let mark = self.mark;
-        if let Some(book) = self.kept.get_mut(usize::from(index).wrapping_sub(1)) {
-            if book.touched <= number && mark <= number {
-                book.begin(heap);
-                book.fill(heap, points, depth)?;
+    fn refresh(&mut self, number: u32, update: &Update) -> Result<(), AllocError> {
+        if let Some(book) = self.kept.get_mut(&update.index) {
+            if book.touched <= number && self.mark <= number {
+                book.begin();
+                book.fill(update.points.as_slice(), self.depth)?;
                 self.used_refreshes = self.used_refreshes.saturating_add(1);
             }
         }
@@ -171,12 +123,8 @@ impl Beside {
     }
 
     // Keeps the truth of now, to be told again later.
-    fn remember(&mut self, heap: Global, number: u32) -> Result<(), AllocError> {
-        let mut old = Vec::new(heap);
-        for sides in self.truth.as_slice() {
-            old.push(copied(heap, sides)?)?;
-        }
-        self.old = old;
+    fn remember(&mut self, number: u32) -> Result<(), AllocError> {
+        self.old = self.truth.clone()?;
         self.old_number = number;
         Ok(())
     }
@@ -184,205 +132,144 @@ impl Beside {
 
 type Sinks<'a, 'b, 'c, 'd> = Twin<BookKeeper<'a, 'b, 'c>, Tally<'d>>;
 
-// A message with points in its turn, told to both.
-fn data(
+// The proved sinks, what stands beside them, and what makes their events.
+#[derive(Drop)]
+struct Trial<'a, 'b, 'c, 'd> {
     heap: Global,
-    sinks: &mut Sinks<'_, '_, '_, '_>,
-    beside: &mut Beside,
-    random: &mut Random,
-    number: u32,
+    sinks: Sinks<'a, 'b, 'c, 'd>,
+    beside: Beside,
+    random: Random,
     prices: u32,
-) -> anyhow::Result<()> {
-    let full = random.below(8) == 0;
-    let index = random.below(u32::from(BOOKS) + 2) as u16;
-    let scale = random.below(10) as u8;
-    let points = any_points(heap, random, scale, prices)?;
-    beside.happen(heap, index, points.as_slice(), full)?;
-    if random.below(20) == 0 {
-        sinks.loss(number);
-        beside.forget(heap, number);
-        beside.volumes.losses = beside.volumes.losses.saturating_add(1);
-        return Ok(());
-    }
-    beside.hear(heap, number, index, points.as_slice(), full)?;
-    if full {
-        let bytes = full_bytes(heap, points.as_slice(), scale)?;
-        let message = Message::Full {
-            index,
-            scale,
-            points: bytes.as_slice(),
-        };
-        sinks.data(number, message);
-    } else {
-        beside.volumes.add(index, points.as_slice())?;
-        let bytes = delta_bytes(heap, points.as_slice(), scale)?;
-        let message = Message::Delta {
-            index,
-            scale,
-            points: bytes.as_slice(),
-        };
-        sinks.data(number, message);
-    }
-    Ok(())
 }
 
-// A symbol mapping, which changes nothing.
-fn mapping(sinks: &mut Sinks<'_, '_, '_, '_>, number: u32) -> anyhow::Result<()> {
-    match read(&MAPPING) {
-        Ok(packet) => {
-            sinks.data(number, packet.message);
-            Ok(())
+impl Trial<'_, '_, '_, '_> {
+    // A message with points in its turn, told to both, or lost.
+    fn data(&mut self, number: u32) -> anyhow::Result<()> {
+        let update = Update::any(self.heap, &mut self.random, self.prices)?;
+        self.beside.happen(&update)?;
+        if self.random.below(20) == 0 {
+            self.sinks.loss(number);
+            self.beside.forget(number);
+            self.beside.volumes.lose();
+            return Ok(());
         }
-        Err(_) => Err(anyhow!("mapping refused")),
+        self.beside.hear(number, &update)?;
+        let bytes = update.bytes(self.heap)?;
+        self.sinks.data(number, update.message(bytes.as_slice()));
+        Ok(())
     }
-}
 
-fn points_at(heap: Global, books: &Vec<Sides>, at: usize) -> Result<Vec<Point>, AllocError> {
-    match books.get(at) {
-        Some(sides) => book_points(heap, sides),
-        None => Ok(Vec::new(heap)),
+    // A symbol mapping, which changes nothing.
+    fn mapping(&mut self, number: u32) -> anyhow::Result<()> {
+        let packet = read(&MAPPING)?;
+        self.sinks.data(number, packet.message);
+        Ok(())
     }
-}
 
-// A true book as of now, or as of some time ago.
-fn refresh(
-    heap: Global,
-    sinks: &mut Sinks<'_, '_, '_, '_>,
-    beside: &mut Beside,
-    random: &mut Random,
-    number: u32,
-) -> anyhow::Result<()> {
-    let index = 1 + random.below(u32::from(BOOKS)) as u16;
-    let scale = 1 + random.below(9) as u8;
-    let at = usize::from(index).wrapping_sub(1);
-    let late = random.below(3) == 0;
-    let number = if late { beside.old_number } else { number };
-    let points = if late {
-        points_at(heap, &beside.old, at)?
-    } else {
-        points_at(heap, &beside.truth, at)?
-    };
-    beside.refresh(heap, number, index, points.as_slice())?;
-    let bytes = full_bytes(heap, points.as_slice(), scale)?;
-    let message = Message::Full {
-        index,
-        scale,
-        points: bytes.as_slice(),
-    };
-    sinks.refresh(number, message);
-    Ok(())
-}
-
-fn same_side(
-    keeper: &BookKeeper<'_, '_, '_>,
-    index: u16,
-    side: Side,
-    owed: &plain::Side,
-    falling: bool,
-) -> bool {
-    let count = owed.len();
-    let mut place = if falling { count.wrapping_sub(1) } else { 0 };
-    for (price, level) in owed.iter() {
-        match keeper.level(index, side, place) {
-            Some(told)
-                if told.price == *price && told.volume == level.0 && told.orders == level.1 => {}
-            _ => return false,
-        }
-        place = if falling {
-            place.wrapping_sub(1)
+    // A true book as of now, or as of some time ago.
+    fn refresh(&mut self, number: u32) -> anyhow::Result<()> {
+        let index = 1 + self.random.below(u32::from(BOOKS)) as u16;
+        let scale = 1 + self.random.below(9) as u8;
+        let beside = &self.beside;
+        let (number, books) = if self.random.below(3) == 0 {
+            (beside.old_number, &beside.old)
         } else {
-            place.wrapping_add(1)
+            (number, &beside.truth)
         };
-    }
-    keeper.level(index, side, count).is_none()
-}
-
-fn same_truth(kept: &Sides, truth: &Sides) -> bool {
-    same_levels(&kept.buys, &truth.buys) && same_levels(&kept.sells, &truth.sells)
-}
-
-fn same_levels(a: &plain::Side, b: &plain::Side) -> bool {
-    for (price, level) in a.iter() {
-        match b.get(price) {
-            Some(other) if other.0 == level.0 && other.1 == level.1 => {}
-            _ => return false,
-        }
-    }
-    a.len() == b.len()
-}
-
-// Every book and every row, compared.
-fn compare(sinks: &Sinks<'_, '_, '_, '_>, beside: &mut Beside) -> anyhow::Result<()> {
-    let keeper = sinks.first();
-    agree(keeper.mark() == beside.mark, "mark")?;
-    agree(
-        keeper.book(0).is_none() && keeper.book(BOOKS + 1).is_none(),
-        "a book too many",
-    )?;
-    for index in 1..=BOOKS {
-        let at = usize::from(index).wrapping_sub(1);
-        let (Some(owed), Some(truth)) = (beside.kept.get(at), beside.truth.get(at)) else {
+        let Some(sides) = books.get(&index) else {
             return Err(anyhow!("books"));
         };
-        let Some(told) = keeper.book(index) else {
+        let update = Update {
+            kind: Kind::Full,
+            index,
+            scale,
+            points: sides.points(self.heap)?,
+        };
+        self.beside.refresh(number, &update)?;
+        let bytes = update.bytes(self.heap)?;
+        self.sinks.refresh(number, update.message(bytes.as_slice()));
+        Ok(())
+    }
+
+    fn event(&mut self, number: u32) -> anyhow::Result<()> {
+        let before = number.saturating_sub(1);
+        match self.random.below(100) {
+            0..=74 => self.data(number)?,
+            75..=94 => self.refresh(before)?,
+            95 => self.mapping(number)?,
+            96 => {
+                self.sinks.restart(number);
+                self.beside.forget(before);
+            }
+            _ => self.beside.remember(before)?,
+        }
+        self.compare()
+    }
+
+    // Every book and every row, compared.
+    fn compare(&mut self) -> anyhow::Result<()> {
+        let whole = same_books(self.heap, self.sinks.first(), &self.beside)?;
+        self.beside.whole_seen = self.beside.whole_seen.saturating_add(whole);
+        same_tally(self.sinks.second(), &self.beside.volumes)
+    }
+}
+
+// Compares every book, and gives how many are whole.
+fn same_books(
+    heap: Global,
+    keeper: &BookKeeper<'_, '_, '_>,
+    beside: &Beside,
+) -> anyhow::Result<u32> {
+    ensure!(keeper.mark() == beside.mark, "mark");
+    ensure!(
+        keeper.book(0).is_none() && keeper.book(BOOKS + 1).is_none(),
+        "a book too many"
+    );
+    let mut whole = 0u32;
+    for (index, owed) in &beside.kept {
+        let Some(told) = keeper.book(*index) else {
             return Err(anyhow!("a book is missing"));
         };
-        agree(
+        ensure!(
             told.whole == owed.whole && told.touched == owed.touched,
-            "whole or touched",
-        )?;
-        agree(
-            same_side(keeper, index, Side::Buy, &owed.sides.buys, true),
-            "buys",
-        )?;
-        agree(
-            same_side(keeper, index, Side::Sell, &owed.sides.sells, false),
-            "sells",
-        )?;
+            "whole or touched"
+        );
+        let buys = owed.sides.best_first(heap, Side::Buy)?;
+        ensure!(
+            same_side(keeper, *index, Side::Buy, buys.as_slice()),
+            "buys"
+        );
+        let sells = owed.sides.best_first(heap, Side::Sell)?;
+        ensure!(
+            same_side(keeper, *index, Side::Sell, sells.as_slice()),
+            "sells"
+        );
         if owed.whole {
-            beside.whole_seen = beside.whole_seen.saturating_add(1);
-            agree(
-                same_truth(&owed.sides, truth),
-                "a whole book is not the true one",
-            )?;
+            whole = whole.saturating_add(1);
+            ensure!(
+                beside.truth.get(index) == Some(&owed.sides),
+                "a whole book is not the true one"
+            );
         }
     }
-    let tally = sinks.second();
-    for index in 0..BOOKS + 2 {
-        agree(
-            tally.executed(index) == beside.volumes.rows.get(&index).copied(),
-            "executed",
-        )?;
-    }
-    let counters = tally.counters();
-    agree(
-        counters.missed == beside.volumes.missed && counters.losses == beside.volumes.losses,
-        "counters",
-    )
+    Ok(whole)
 }
 
-fn event(
-    heap: Global,
-    sinks: &mut Sinks<'_, '_, '_, '_>,
-    beside: &mut Beside,
-    random: &mut Random,
-    number: u32,
-    prices: u32,
-) -> anyhow::Result<()> {
-    match random.below(100) {
-        0..=74 => data(heap, sinks, beside, random, number, prices)?,
-        75..=94 => refresh(heap, sinks, beside, random, number.saturating_sub(1))?,
-        95 => mapping(sinks, number)?,
-        96 => {
-            sinks.restart(number);
-            beside.forget(heap, number.saturating_sub(1));
-        }
-        _ => beside.remember(heap, number.saturating_sub(1))?,
-    }
-    compare(sinks, beside)
+// Whether a keeper's side has these levels, from the best one on, and no other.
+fn same_side(keeper: &BookKeeper<'_, '_, '_>, index: u16, side: Side, owed: &[Level]) -> bool {
+    (0..=owed.len()).all(|place| keeper.level(index, side, place) == owed.get(place).copied())
 }
 
-fn trial(rt: &HostRuntime, depth: u16, room: u16, prices: u32) -> anyhow::Result<()> {
+fn same_tally(tally: &Tally<'_>, owed: &Volumes) -> anyhow::Result<()> {
+    ensure!(
+        (0..BOOKS + 2).all(|index| tally.executed(index) == owed.rows.get(&index).copied()),
+        "executed"
+    );
+    ensure!(tally.counters() == owed.counters, "counters");
+    Ok(())
+}
+
+fn run_trial(rt: &HostRuntime, depth: u16, room: u16, prices: u32) -> anyhow::Result<()> {
     let heap = rt.alloc();
     let levels = usize::from(BOOKS) * usize::from(depth);
     let mut books = vec![in heap; OLD_BOOK; usize::from(BOOKS)]?;
@@ -400,17 +287,22 @@ fn trial(rt: &HostRuntime, depth: u16, room: u16, prices: u32) -> anyhow::Result
     ) else {
         return Err(anyhow!("tables refused"));
     };
-    let mut sinks = Twin::new(BookKeeper::new(tables), Tally::new(rows.as_mut_slice()));
-    let mut beside = Beside::new(heap, usize::from(depth), usize::from(room))?;
-    let mut random = Random::new(2_463_534_242);
-    compare(&sinks, &mut beside)?;
-    for number in 1..EVENTS + 1 {
-        event(heap, &mut sinks, &mut beside, &mut random, number, prices)?;
+    let mut trial = Trial {
+        heap,
+        sinks: Twin::new(BookKeeper::new(tables), Tally::new(rows.as_mut_slice())),
+        beside: Beside::new(heap, usize::from(depth), usize::from(room))?,
+        random: Random::new(2_463_534_242),
+        prices,
+    };
+    trial.compare()?;
+    for number in 1..=EVENTS {
+        trial.event(number)?;
     }
-    agree(
+    let beside = &trial.beside;
+    ensure!(
         beside.used_refreshes > 100 && beside.whole_seen > 100 && beside.overflows > 0,
-        "a case was never met",
-    )?;
+        "a case was never met"
+    );
     println!(rt; "depth {depth}, rows {room}: {EVENTS} events agree")?;
     Ok(())
 }
@@ -420,28 +312,23 @@ fn refused_tables() -> anyhow::Result<()> {
     let mut books = [OLD_BOOK; 1];
     let mut buys = [OLD_LEVEL; 1];
     let mut sells = [OLD_LEVEL; 2];
-    let number = match Tables::check(&mut books, &mut buys, &mut sells, 1) {
-        Ok(_) => 0,
-        Err(fault) => fault.number(),
+    let Err(fault) = Tables::check(&mut books, &mut buys, &mut sells, 1) else {
+        return Err(anyhow!("tables taken"));
     };
-    agree(number == 22, "tables taken")?;
-    let book = books[0];
-    agree(
-        book.whole && book.touched == 9 && book.buys == 1 && book.sells == 1,
-        "a refused book is changed",
-    )?;
-    let [first, second] = sells;
-    agree(
-        buys[0].volume == 7 && first.volume == 7 && second.volume == 7,
-        "a refused level is changed",
-    )
+    ensure!(fault.number() == 22, "the refusal's number");
+    ensure!(books == [OLD_BOOK; 1], "a refused book is changed");
+    ensure!(
+        buys == [OLD_LEVEL; 1] && sells == [OLD_LEVEL; 2],
+        "a refused level is changed"
+    );
+    Ok(())
 }
 
 fn run(rt: &HostRuntime) -> anyhow::Result<()> {
     refused_tables()?;
-    trial(rt, 1, 2, 3)?;
-    trial(rt, 2, 6, 4)?;
-    trial(rt, 8, 6, 16)
+    run_trial(rt, 1, 2, 3)?;
+    run_trial(rt, 2, 6, 4)?;
+    run_trial(rt, 8, 6, 16)
 }
 
 fn main(rt: HostRuntime) -> anyhow::Result<()> {

@@ -1,57 +1,85 @@
 //! Books and a tally by plain maps, to hold the proved ones against.
+use books::Level;
 use std::alloc::{AllocError, Global};
 use std::collections::BTreeMap;
+use tally::Counters;
+use wire::{Reason, Side};
 
-/// Volume and count of orders by price in billionths.
-pub type Side = BTreeMap<u64, (u32, u16)>;
+/// The levels of a side, by price in billionths.
+pub type Levels = BTreeMap<u64, Level>;
 
-/// A point of a message, its price in billionths.
-#[derive(Clone, Copy)]
+/// A point of a message: the level that it names, and what changed it.
+#[derive(Clone, Copy, Debug)]
 pub struct Point {
-    pub buy: bool,
-    pub price: u64,
-    pub volume: u32,
-    pub orders: u16,
-    pub executed: bool,
+    pub side: Side,
+    pub level: Level,
+    pub reason: Reason,
     pub changed: u32,
 }
 
+impl Point {
+    /// A level as it stands in a book.
+    pub fn standing(side: Side, level: Level) -> Point {
+        Point {
+            side,
+            level,
+            reason: Reason::Order,
+            changed: 0,
+        }
+    }
+}
+
 /// The two sides of one book.
-#[derive(Drop)]
+#[derive(Clone, PartialEq, Drop)]
 pub struct Sides {
-    pub buys: Side,
-    pub sells: Side,
+    pub buys: Levels,
+    pub sells: Levels,
 }
 
 impl Sides {
     pub fn new(heap: Global) -> Sides {
         Sides {
-            buys: BTreeMap::new(heap),
-            sells: BTreeMap::new(heap),
+            buys: Levels::new(heap),
+            sells: Levels::new(heap),
         }
     }
 
     /// Removes or sets one level.
     pub fn enter(&mut self, point: Point) -> Result<(), AllocError> {
-        let side = if point.buy {
-            &mut self.buys
-        } else {
-            &mut self.sells
-        };
-        enter_level(side, point)
+        match point.side {
+            Side::Buy => enter_level(&mut self.buys, point.level),
+            Side::Sell => enter_level(&mut self.sells, point.level),
+        }
     }
 
-    pub fn clear(&mut self, heap: Global) {
-        self.buys = BTreeMap::new(heap);
-        self.sells = BTreeMap::new(heap);
+    pub fn clear(&mut self) {
+        self.buys.clear();
+        self.sells.clear();
+    }
+
+    /// The levels of a side, the best first.
+    pub fn best_first(&self, heap: Global, side: Side) -> Result<Vec<Level>, AllocError> {
+        match side {
+            Side::Buy => self.buys.values().rev().copied().collect(heap),
+            Side::Sell => self.sells.values().copied().collect(heap),
+        }
+    }
+
+    /// The points of a message that names the whole book.
+    pub fn points(&self, heap: Global) -> Result<Vec<Point>, AllocError> {
+        let buys = self.buys.values();
+        let sells = self.sells.values();
+        buys.map(|level| Point::standing(Side::Buy, *level))
+            .chain(sells.map(|level| Point::standing(Side::Sell, *level)))
+            .collect(heap)
     }
 }
 
-fn enter_level(side: &mut Side, point: Point) -> Result<(), AllocError> {
-    if point.volume == 0 {
-        let _ = side.remove(&point.price);
+fn enter_level(levels: &mut Levels, level: Level) -> Result<(), AllocError> {
+    if level.volume == 0 {
+        let _ = levels.remove(&level.price);
     } else {
-        side.insert(point.price, (point.volume, point.orders))?;
+        levels.insert(level.price, level)?;
     }
     Ok(())
 }
@@ -73,19 +101,19 @@ impl Book {
         }
     }
 
-    pub fn forget(&mut self, heap: Global) {
+    pub fn forget(&mut self) {
         self.whole = false;
         self.touched = 0;
-        self.sides.clear(heap);
+        self.sides.clear();
     }
 
-    pub fn begin(&mut self, heap: Global) {
+    pub fn begin(&mut self) {
         self.whole = true;
-        self.sides.clear(heap);
+        self.sides.clear();
     }
 
     /// Enters points while the book is whole; one level too many, and it is empty and not whole.
-    pub fn fill(&mut self, heap: Global, points: &[Point], depth: usize) -> Result<(), AllocError> {
+    pub fn fill(&mut self, points: &[Point], depth: usize) -> Result<(), AllocError> {
         for point in points {
             if !self.whole {
                 return Ok(());
@@ -93,7 +121,7 @@ impl Book {
             self.sides.enter(*point)?;
             if self.sides.buys.len() > depth || self.sides.sells.len() > depth {
                 self.whole = false;
-                self.sides.clear(heap);
+                self.sides.clear();
             }
         }
         Ok(())
@@ -105,8 +133,7 @@ impl Book {
 pub struct Volumes {
     pub rows: BTreeMap<u16, u64>,
     pub room: usize,
-    pub missed: u32,
-    pub losses: u32,
+    pub counters: Counters,
 }
 
 impl Volumes {
@@ -114,14 +141,20 @@ impl Volumes {
         Volumes {
             rows: BTreeMap::new(heap),
             room,
-            missed: 0,
-            losses: 0,
+            counters: Counters {
+                missed: 0,
+                losses: 0,
+            },
         }
+    }
+
+    pub fn lose(&mut self) {
+        self.counters.losses = self.counters.losses.saturating_add(1);
     }
 
     pub fn add(&mut self, index: u16, points: &[Point]) -> Result<(), AllocError> {
         for point in points {
-            if point.executed {
+            if point.reason == Reason::Execution {
                 self.add_one(index, u64::from(point.changed))?;
             }
         }
@@ -136,7 +169,7 @@ impl Volumes {
             None if self.rows.len() < self.room => {
                 self.rows.insert(index, quantity)?;
             }
-            None => self.missed = self.missed.saturating_add(1),
+            None => self.counters.missed = self.counters.missed.saturating_add(1),
         }
         Ok(())
     }
