@@ -1,6 +1,6 @@
 -- What a put and a take leave in a region that is kept.
-use Rattle.std.proofs.Common.{◌≡◌, ℕ, ◌+◌, ◌-◌, ◌^◌, ◌<◌, ◌≤◌, true, false, List, length, ap, ◌∙◌, subst, subst₂, sym, arith}
-use Rattle.chain_shelf.specs.Records.{mem, records, link, next, size, span, walk, last}
+use Rattle.std.proofs.Common.{◌≡◌, ℕ, ◌+◌, ◌-◌, ◌^◌, ◌<◌, ◌≤◌, true, false, List, length, subst, subst₂, arith}
+use Rattle.chain_shelf.specs.Records.{mem, records, link, size, span, walk, last}
 use Rattle.shelf.specs.Store.{right, has, insert, remove}
 use Rattle.chain_shelf.specs.Chain.{Kept, Before, LaidIn, TakenOut, held, spent}
 use Rattle.chain_shelf.specs.Sounds.{opened}

@@ -29,13 +29,13 @@ impl ChainShelf {
     }
 
     // The first record of the last packet whose number is below the given one, or 0: a walk from the first packet.
-    fn walk_to(&self, number: u64) -> usize
+    fn walk_to(&self, number: u64) -> u16
         ensures { Before self.now.region.items number result }
     {
         let bytes = &self.region[..];
         let mut prev = 0;
         let mut at = read(bytes, 0, NEXT);
-        while at != 0 && number_at(bytes, at) < number {
+        while at != 0 && u64::from(number_at(bytes, at)) < number {
             prev = at;
             at = read(bytes, at, NEXT);
         }
@@ -43,29 +43,29 @@ impl ChainShelf {
     }
 
     // The same, with no walk where the number is above every number held.
-    fn seek(&self, number: u64) -> usize
+    fn seek(&self, number: u64) -> u16
         ensures { Before self.now.region.items number result }
     {
         let bytes = &self.region[..];
         let last = read(bytes, 0, LAST);
-        if last == 0 || number_at(bytes, last) < number {
+        if last == 0 || u64::from(number_at(bytes, last)) < number {
             return last;
         }
         self.walk_to(number)
     }
 
     // Whether the packet behind the one at `prev` has the number.
-    fn stands_behind(&self, prev: usize, number: u32) -> bool
+    fn stands_behind(&self, prev: u16, number: u32) -> bool
         requires { Before self.now.region.items number prev }
         ensures { result ≡ has (held self.now.region.items) number }
     {
         let bytes = &self.region[..];
         let at = read(bytes, prev, NEXT);
-        at != 0 && number_at(bytes, at) == u64::from(number)
+        at != 0 && number_at(bytes, at) == number
     }
 
     // The number of the packet behind the one at `prev`: the least above the given number.
-    fn number_behind(&self, prev: usize, number: u32) -> Option<u32>
+    fn number_behind(&self, prev: u16, number: u32) -> Option<u32>
         requires { Before self.now.region.items (number + 1) prev }
         ensures { result ≡ above (held self.now.region.items) number }
     {
@@ -74,11 +74,11 @@ impl ChainShelf {
         if at == 0 {
             return None;
         }
-        Some(number_at(bytes, at) as u32)
+        Some(number_at(bytes, at))
     }
 
     // Keeps a packet behind the one at `prev`.
-    fn put_behind(&mut self, prev: usize, number: u32, packet: &[u8])
+    fn put_behind(&mut self, prev: u16, number: u32, packet: &[u8])
         requires prev { Before self.old.region.items number prev }
         requires proper { right (length packet.now) ≡ true }
         requires absent { has (held self.old.region.items) number ≡ false }
@@ -90,7 +90,7 @@ impl ChainShelf {
     }
 
     // Moves the packet behind the one at `prev` to the front of the buffer, and answers its length.
-    fn take_behind(&mut self, prev: usize, number: u32, buffer: &mut [u8]) -> usize
+    fn take_behind(&mut self, prev: u16, number: u32, buffer: &mut [u8]) -> usize
         requires prev { Before self.old.region.items number prev }
         requires long { 1500 ≤ length buffer.old }
         requires present { has (held self.old.region.items) number ≡ true }
@@ -101,7 +101,7 @@ impl ChainShelf {
     {
         let bytes = &mut self.region[..];
         let first = read(bytes, prev, NEXT);
-        let size = read(bytes, first, SIZE);
+        let size = usize::from(read(bytes, first, SIZE));
         let stop = copy(bytes, first, BODY, &mut buffer[..size]);
         unlink(bytes, prev, first, stop);
         size
@@ -165,7 +165,7 @@ impl Shelf for ChainShelf {
     }
 
     fn used(&self) -> u32 {
-        read(&self.region[..], 0, USED) as u32
+        u32::from(read(&self.region[..], 0, USED))
     }
 
     fn clear(&mut self) {

@@ -15,27 +15,22 @@ const FIRST_ROOM: usize = RECORD - BODY;
 const ROOM: usize = RECORD - MORE;
 
 /// Writes what a packet's first record has before its bytes, but for the link.
-fn head(bytes: &mut [u8], index: usize, after: usize, number: u32, size: usize)
-    requires at { index < records bytes.old }
-    requires after { after < 65536 }
-    requires size { size < 65536 }
+fn head(bytes: &mut [u8], index: u16, after: u16, number: u32, size: u16)
+    requires { index < records bytes.old }
     ensures after { next (mem bytes.new) index ≡ after }
     ensures number { number_of (mem bytes.new) index ≡ number }
     ensures size { size_of (mem bytes.new) index ≡ size }
     ensures others { (s q : ℕ) → q < 64 → (s ≡ index → (q < 2) ⊎ (10 ≤ q)) → mem bytes.new s q ≡ mem bytes.old s q }
 {
     write(bytes, index, NEXT, after);
-    write(bytes, index, NUMBER, (number % WORD) as usize);
-    write(bytes, index, NUMBER + 2, (number / WORD) as usize);
+    write(bytes, index, NUMBER, (number % WORD) as u16);
+    write(bytes, index, NUMBER + 2, (number / WORD) as u16);
     write(bytes, index, SIZE, size);
 }
 
 /// Writes what record 0 has, but for the link to the first packet.
-fn lead(bytes: &mut [u8], free: usize, last: usize, used: usize)
-    requires some { 0 < records bytes.old }
-    requires free { free < 65536 }
-    requires last { last < 65536 }
-    requires used { used < 65536 }
+fn lead(bytes: &mut [u8], free: u16, last: u16, used: u16)
+    requires { 0 < records bytes.old }
     ensures free { link (mem bytes.new) 0 ≡ free }
     ensures last { tail (mem bytes.new) ≡ last }
     ensures used { in_use (mem bytes.new) ≡ used }
@@ -47,11 +42,9 @@ fn lead(bytes: &mut [u8], free: usize, last: usize, used: usize)
 }
 
 /// The last packet's first record, now that `after` follows `first`: that is `first` where `after` is 0.
-fn end_of(bytes: &[u8], after: usize, first: usize) -> usize
-    requires some { 0 < records bytes.now }
-    requires first { first < 65536 }
-    ensures is { result ≡ end after first (tail (mem bytes.now)) }
-    ensures small { result < 65536 }
+fn end_of(bytes: &[u8], after: u16, first: u16) -> u16
+    requires { 0 < records bytes.now }
+    ensures { result ≡ end after first (tail (mem bytes.now)) }
 {
     if after == 0 {
         return first;
@@ -60,7 +53,7 @@ fn end_of(bytes: &[u8], after: usize, first: usize) -> usize
 }
 
 /// Lays a packet into the first free records, behind the packet whose first record is `prev`.
-pub(crate) fn lay_packet(bytes: &mut [u8], prev: usize, number: u32, packet: &[u8])
+pub(crate) fn lay_packet(bytes: &mut [u8], prev: u16, number: u32, packet: &[u8])
     requires prev { prev < records bytes.old }
     requires size { length packet.now ≤ 1500 }
     requires few { in_use (mem bytes.old) + span 10 (length packet.now) < 65536 }
@@ -73,7 +66,7 @@ pub(crate) fn lay_packet(bytes: &mut [u8], prev: usize, number: u32, packet: &[u
     let after = read(bytes, prev, NEXT);
     let last = end_of(bytes, after, first);
     let used = read(bytes, 0, USED) + span_of(packet.len());
-    head(bytes, first, after, number, packet.len());
+    head(bytes, first, after, number, packet.len() as u16);
     let stop = fill(bytes, first, BODY, packet);
     let free = read(bytes, stop, LINK);
     write(bytes, stop, LINK, 0);
@@ -82,8 +75,7 @@ pub(crate) fn lay_packet(bytes: &mut [u8], prev: usize, number: u32, packet: &[u
 }
 
 /// Takes the packet at `first` out of the chain, behind the one at `prev`, and frees its records, up to the one at `stop`.
-pub(crate) fn unlink(bytes: &mut [u8], prev: usize, first: usize, stop: usize)
-    requires most { records bytes.old ≤ 65535 }
+pub(crate) fn unlink(bytes: &mut [u8], prev: u16, first: u16, stop: u16)
     requires prev { prev < records bytes.old }
     requires first { first < records bytes.old }
     requires stop { stop < records bytes.old }
@@ -94,7 +86,7 @@ pub(crate) fn unlink(bytes: &mut [u8], prev: usize, first: usize, stop: usize)
 {
     let after = read(bytes, first, NEXT);
     let last = end_of(bytes, after, prev);
-    let used = read(bytes, 0, USED) - span_of(read(bytes, first, SIZE));
+    let used = read(bytes, 0, USED) - span_of(usize::from(read(bytes, first, SIZE)));
     let free = read(bytes, 0, LINK);
     write(bytes, prev, NEXT, after);
     write(bytes, stop, LINK, free);
@@ -102,14 +94,14 @@ pub(crate) fn unlink(bytes: &mut [u8], prev: usize, first: usize, stop: usize)
 }
 
 /// The records that a packet of a length takes.
-fn span_of(length: usize) -> usize
+fn span_of(length: usize) -> u16
     requires { length ≤ 1500 }
     ensures { result ≡ span 10 length }
 {
     if length <= FIRST_ROOM {
         return 1;
     }
-    1 + (length - FIRST_ROOM + ROOM - 1) / ROOM
+    1 + (length - FIRST_ROOM).div_ceil(ROOM) as u16
 }
 
 /// The price of a length: the records that such a packet takes, or 0 where there is no such packet.
@@ -121,7 +113,7 @@ pub fn price_of(length: usize) -> u32
     if length < SHORTEST || length > LONGEST {
         return 0;
     }
-    span_of(length) as u32
+    u32::from(span_of(length))
 }
 
 /// Frees every record, in order.
@@ -130,7 +122,7 @@ pub(crate) fn free_all(bytes: &mut [u8])
     ensures kept { Kept bytes.new }
     ensures held { held bytes.new ≡ [] }
 {
-    let count = bytes.len() / RECORD;
+    let count = (bytes.len() / RECORD) as u16;
     for r in 1..count {
         let after = if r + 1 < count { r + 1 } else { 0 };
         write(bytes, r, LINK, after);

@@ -63,7 +63,7 @@ impl ChannelFault {
 }
 
 /// Why an offer is refused: by the reader, the shelf or the channel, with the fault of each whole.
-#[derive(Clone, Copy)]
+#[derive(Clone, Copy, PartialEq, Eq, Debug)]
 pub enum OfferFault {
     Reader(ReadFault),
     Shelf(PutFault),

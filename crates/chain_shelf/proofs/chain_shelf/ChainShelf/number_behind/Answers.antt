@@ -1,4 +1,4 @@
-use Rattle.std.proofs.Common.{◌+◌, List, ℕ, Some, sym, ap, ◌∙◌, subst}
+use Rattle.std.proofs.Common.{◌+◌, Some, sym, ap, ◌∙◌, subst}
 use Rattle.chain_shelf.specs.Records.{mem, heads}
 use Rattle.chain_shelf.specs.Chain.{Kept, Before, held}
 use Rattle.shelf.specs.Store.{above}
@@ -11,7 +11,7 @@ number_at-requires c =
     let k = c.args.number + 1 in
     let p = c.args.prev in
     let x = sym c.deref.ensures.value in
-    (some_left c.deref.result.now k p c.read-at.result (subst Kept x c.args.self.now.kept) (subst (λ b. Before b k p) x c.requires) c.read-at.ensures.is c.if-at-eq0.false).within
+    (some_left c.deref.result.now k p c.read-at.result (subst Kept x c.args.self.now.kept) (subst (λ b. Before b k p) x c.requires) c.read-at.ensures c.if-at-eq0.false).within
 
 pub returns-then-at-eq0 : goal.returns-then-at-eq0
 returns-then-at-eq0 c =
@@ -19,7 +19,7 @@ returns-then-at-eq0 c =
     let k = c.args.number + 1 in
     let p = c.args.prev in
     let x = sym c.deref.ensures.value in
-    let f = none_left b k p c.read-at.result (subst Kept x c.args.self.now.kept) (subst (λ b. Before b k p) x c.requires) c.read-at.ensures.is c.if-at-eq0.true in
+    let f = none_left b k p c.read-at.result (subst Kept x c.args.self.now.kept) (subst (λ b. Before b k p) x c.requires) c.read-at.ensures c.if-at-eq0.true in
     sym (ap (λ b. above (held b) c.args.number) x ∙ above_place (mem b) c.args.number (heads b) ∙ ap (first_above (mem b)) f)
 
 pub returns : goal.returns
@@ -28,5 +28,5 @@ returns c =
     let k = c.args.number + 1 in
     let p = c.args.prev in
     let x = sym c.deref.ensures.value in
-    let f = some_left b k p c.read-at.result (subst Kept x c.args.self.now.kept) (subst (λ b. Before b k p) x c.requires) c.read-at.ensures.is c.if-at-eq0.false in
-    ap Some c.number_at.ensures.is ∙ sym (ap (λ b. above (held b) c.args.number) x ∙ above_place (mem b) c.args.number (heads b) ∙ ap (first_above (mem b)) f.is)
+    let f = some_left b k p c.read-at.result (subst Kept x c.args.self.now.kept) (subst (λ b. Before b k p) x c.requires) c.read-at.ensures c.if-at-eq0.false in
+    ap Some c.number_at.ensures ∙ sym (ap (λ b. above (held b) c.args.number) x ∙ above_place (mem b) c.args.number (heads b) ∙ ap (first_above (mem b)) f.is)

@@ -1,7 +1,6 @@
-use Rattle.std.proofs.Common.{◌≡◌, false, length, drop, Some, None, vec_items, sym, refl, ap, ◌∙◌, subst, arith}
-use Rattle.std.proofs.lemmas.List.{take_at}
-use Rattle.chain_shelf.specs.Chain.{Kept, store, held}
-use Rattle.shelf.specs.Store.{remove, has, lookup, length_of, written}
+use Rattle.std.proofs.Common.{◌≡◌, false, None, vec_items, sym, refl, ap, ◌∙◌, arith}
+use Rattle.chain_shelf.specs.Chain.{held}
+use Rattle.shelf.specs.Store.{has, length_of, written}
 use Rattle.shelf.proofs.Kept.{lookup_none, remove_none}
 use Rattle.chain_shelf.proofs.Stores.{take_ok, take_wrote, take_done}
 use Rattle.chain_shelf.proofs.chain_shelf.ChainShelfShelf.take.Goals as goal
