@@ -22,9 +22,6 @@ fronted_none i [] e = refl
 fronted_none i (y ∷ ys) e = cond_both (row_before i (row_key y)) None (Some y) (λ o. o ≡ None) (λ t. refl) (λ t. absurd (both_ways true (sym (rw t refl) ∙ e) refl))
 
 module _ (i : ℕ) (rs : List Row) (used at : ℕ) where
-  pub found_within : Found row_key row_before i (take used rs) true at → at < length rs
-  found_within f = omega (arith, f.within, length-take used rs)
-
   pub found_executed : Found row_key row_before i (take used rs) true at → executed_of i (take used rs) ≡ Some (get_or rs at blank).executed
   found_executed f =
       let zs = take used rs in
