@@ -60,8 +60,14 @@ sized_lookup : (h : Packets) (k : ℕ) (p : List ℕ) → Sized h → lookup h k
 sized_lookup [] k p s e = absurd (let z : ◌≡◌ {A = ℕ} 0 1 = cc in omega arith)
 sized_lookup (x ∷ h) k p s e = let i = sized_lookup h k p s.2 in let l = s.1 in grind (arith, nat_tests)
 
--- what stands behind the record that a search for k found
-module _ (b : List ℕ) (k p at : ℕ) (kept : Kept b) (before : Before b k p) (e : at ≡ next (mem b) p) where
+-- what stands behind the record that a search for k found, where b is read from v, which is kept
+module _ (b v : List ℕ) (x : b ≡ v) (k p at : ℕ) (whole : Kept v) (behind : Before v k p) (e : at ≡ next (mem b) p) where
+  pub kept : Kept b
+  kept = subst Kept (sym x) whole
+
+  before : Before b k p
+  before = subst (λ c. Before c k p) (sym x) behind
+
   abbrev s : Sound b
   s = opened b kept
 
@@ -90,9 +96,12 @@ module _ (b : List ℕ) (k p at : ℕ) (kept : Kept b) (before : Before b k p) (
       go [] q = absurd (n (at_is ∙ ap first q))
       go (h ∷ C) q = found b k at C s (q ∙ ap (λ t. t ∷ C) (sym (at_is ∙ ap first q)))
 
-  pub there : has (held b) k ≡ true → There b k at
-  there y = go B refl
+  pub there : has (held v) k ≡ true → There b k at
+  there held_there = go B refl
     where
+      y : has (held b) k ≡ true
+      y = ap (λ c. has (held c) k) x ∙ held_there
+
       go : (C : List ℕ) → B ≡ C → There b k at
       go [] q = absurd (both_ways (has (held b) k) (has_place (mem b) k 0 (heads b) s.rising ∙ ap (at_first (mem b) k) q) y)
       go (h ∷ C) q =

@@ -1,4 +1,5 @@
 //! A shelf as a plain map, to hold the proved shelves against.
+use shelf::PutFault;
 use std::alloc::{AllocError, Global};
 use std::collections::BTreeMap;
 
@@ -14,6 +15,7 @@ pub enum Prices {
 /// A map from number to packet under a total of units.
 #[derive(Drop)]
 pub struct Model {
+    heap: Global,
     held: BTreeMap<u32, Vec<u8>>,
     prices: Prices,
     total: u64,
@@ -22,9 +24,19 @@ pub struct Model {
 impl Model {
     pub fn new(heap: Global, prices: Prices, total: u64) -> Model {
         Model {
+            heap,
             held: BTreeMap::new(heap),
             prices,
             total,
+        }
+    }
+
+    /// The model under one more quota.
+    pub fn under(self, limit: u64) -> Model {
+        let most = limit.max(self.price(1500));
+        Model {
+            total: most.min(self.total),
+            ..self
         }
     }
 
@@ -40,27 +52,10 @@ impl Model {
         }
     }
 
-    /// The model under one more quota.
-    pub fn under(self, limit: u64) -> Model {
-        let least = self.price(1500);
-        let Model {
-            held,
-            prices,
-            total,
-        } = self;
-        Model {
-            held,
-            prices,
-            total: limit.max(least).min(total),
-        }
-    }
-
     pub fn used(&self) -> u64 {
-        let mut units = 0u64;
-        for packet in self.held.values() {
-            units = units.saturating_add(self.price(packet.len()));
-        }
-        units
+        self.held.values().fold(0, |units: u64, packet| {
+            units.saturating_add(self.price(packet.len()))
+        })
     }
 
     pub fn holds(&self, number: u32) -> bool {
@@ -68,35 +63,30 @@ impl Model {
     }
 
     pub fn least_above(&self, number: u32) -> Option<u32> {
-        for held in self.held.keys() {
-            if *held > number {
-                return Some(*held);
-            }
-        }
-        None
+        self.held.keys().copied().find(|held| *held > number)
     }
 
-    /// The number of the refusal, 0 where the packet is put.
-    pub fn put(&mut self, heap: Global, number: u32, packet: &[u8]) -> Result<u8, AllocError> {
+    pub fn put(&mut self, number: u32, packet: &[u8]) -> Result<Result<(), PutFault>, AllocError> {
         let cost = self.price(packet.len());
         if cost == 0 {
-            return Ok(2);
+            return Ok(Err(PutFault::Length));
         }
         if self.holds(number) {
-            return Ok(11);
+            return Ok(Err(PutFault::Held));
         }
         if self.used().saturating_add(cost) > self.total {
-            return Ok(13);
+            return Ok(Err(PutFault::Full));
         }
-        self.held.insert(number, Vec::from_slice(heap, packet)?)?;
-        Ok(0)
+        self.held
+            .insert(number, Vec::from_slice(self.heap, packet)?)?;
+        Ok(Ok(()))
     }
 
     pub fn take(&mut self, number: u32) -> Option<Vec<u8>> {
         self.held.remove(&number)
     }
 
-    pub fn clear(&mut self, heap: Global) {
-        self.held = BTreeMap::new(heap);
+    pub fn clear(&mut self) {
+        self.held.clear();
     }
 }

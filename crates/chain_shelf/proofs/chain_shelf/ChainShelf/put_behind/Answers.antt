@@ -1,8 +1,7 @@
-use Rattle.std.proofs.Common.{◌+◌, ◌-◌, ◌≤◌, length, drop, sym, ap, ◌∙◌, subst, arith}
+use Rattle.std.proofs.Common.{◌+◌, ◌-◌, ◌≤◌, length, drop, sym, subst, arith}
 use Rattle.std.proofs.lemmas.List.{take_at}
 use Rattle.chain_shelf.specs.Records.{records, span}
-use Rattle.chain_shelf.specs.Chain.{Kept, Before, held, spent}
-use Rattle.shelf.specs.Store.{has, insert}
+use Rattle.chain_shelf.specs.Chain.{Kept, Before, spent}
 use Rattle.chain_shelf.proofs.Puts.{free_apart, free_inside, free_out}
 use Rattle.chain_shelf.specs.Sounds.{opened}
 use Rattle.chain_shelf.proofs.Stores.{right_most}
@@ -29,28 +28,18 @@ lay_packet-requires c =
 
 pub invariant_of-self : goal.invariant_of-self
 invariant_of-self c =
-    let b = c.deref_mut.result.now in
     let w = c.lay_packet.new.bytes in
     let v = c.args.self.now.region in
-    let n = span 10 (length c.args.packet.now) in
-    let k = c.args.number in
-    let x = sym c.deref_mut.ensures.value in
-    let z = put_kept b w k c.args.prev c.args.packet.now (subst Kept x c.args.self.now.kept) (subst (λ b. Before b k c.args.prev) x c.requires.prev) c.requires.proper
-    (ap (λ b. has (held b) k) (sym x) ∙ c.requires.absent) (omega arith) (subst (λ b. spent b + n ≤ records b - 1) x c.requires.room) c.lay_packet.ensures c.lay_packet.auto.bytes in
-    record { kept = subst Kept (sym (take_at w (drop (length w) v.items) v.len (c.lay_packet.auto.bytes ∙ c.deref_mut.ensures.len))) z.0 }
-
-pub returns : goal.returns
-returns c =
-    let b = c.deref_mut.result.now in
-    let w = c.lay_packet.new.bytes in
-    let v = c.args.self.now.region in
-    let n = span 10 (length c.args.packet.now) in
-    let k = c.args.number in
-    let x = sym c.deref_mut.ensures.value in
-    let z = put_kept b w k c.args.prev c.args.packet.now (subst Kept x c.args.self.now.kept) (subst (λ b. Before b k c.args.prev) x c.requires.prev) c.requires.proper
-    (ap (λ b. has (held b) k) (sym x) ∙ c.requires.absent) (omega arith) (subst (λ b. spent b + n ≤ records b - 1) x c.requires.room) c.lay_packet.ensures c.lay_packet.auto.bytes in
-    let e = take_at w (drop (length w) v.items) v.len (c.lay_packet.auto.bytes ∙ c.deref_mut.ensures.len) in
+    let e = take_at w (drop (length w) v.items) v.len (omega (arith, c.lay_packet.auto.bytes, c.deref_mut.ensures.len)) in
     record {
-      held = ap held e ∙ z.1 ∙ ap (λ b. insert k c.args.packet.now (held b)) (sym x);
-      size = ap length e ∙ c.lay_packet.auto.bytes ∙ ap length (sym x);
+      kept = (put_kept v.items c.deref_mut.result.now w _ c.args.number c.args.prev c.args.packet.now c.deref_mut.ensures.value e c.lay_packet.auto.bytes c.args.self.now.kept
+          c.requires.prev c.requires.proper c.requires.absent (omega arith) c.requires.room c.lay_packet.ensures).0;
     }
+
+pub returns-clause-held : goal.returns-clause-held
+returns-clause-held c =
+    let w = c.lay_packet.new.bytes in
+    let v = c.args.self.now.region in
+    let e = take_at w (drop (length w) v.items) v.len (omega (arith, c.lay_packet.auto.bytes, c.deref_mut.ensures.len)) in
+    (put_kept v.items c.deref_mut.result.now w _ c.args.number c.args.prev c.args.packet.now c.deref_mut.ensures.value e c.lay_packet.auto.bytes c.args.self.now.kept
+    c.requires.prev c.requires.proper c.requires.absent (omega arith) c.requires.room c.lay_packet.ensures).1

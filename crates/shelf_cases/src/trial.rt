@@ -1,0 +1,161 @@
+//! A shelf and the model of it, given the same random calls.
+use crate::model::Model;
+use anyhow::ensure;
+use random::Random;
+use shelf::{PutFault, Shelf, TakeFault};
+use std::alloc::{AllocError, Global};
+use std::collections::BTreeSet;
+
+/// What a call met. A run that has not met all six has not tried the shelf.
+#[derive(Clone, Copy, PartialEq, Eq, PartialOrd, Ord, Debug)]
+enum Met {
+    Length,
+    Held,
+    Full,
+    Short,
+    Taken,
+    Absent,
+}
+
+impl From<PutFault> for Met {
+    fn from(fault: PutFault) -> Met {
+        match fault {
+            PutFault::Length => Met::Length,
+            PutFault::Held => Met::Held,
+            PutFault::Full => Met::Full,
+        }
+    }
+}
+
+/// The count of what may be met.
+const MEETINGS: usize = 6;
+
+/// The lengths of packets that matter.
+const LENGTHS: [usize; 13] = [15, 16, 53, 54, 55, 56, 115, 116, 117, 118, 1499, 1500, 1501];
+
+/// A shelf and its model, with the choices that are made for both and what their calls have met.
+#[derive(Drop)]
+pub struct Trial<S> {
+    heap: Global,
+    shelf: S,
+    model: Model,
+    numbers: u32,
+    random: Random,
+    met: BTreeSet<Met>,
+}
+
+impl<S: Shelf> Trial<S> {
+    /// A trial of an empty shelf, with packets of so many numbers.
+    pub fn new(heap: Global, shelf: S, model: Model, numbers: u32) -> Trial<S> {
+        Trial {
+            heap,
+            shelf,
+            model,
+            numbers,
+            random: Random::new(88_172_645_463_325_252),
+            met: BTreeSet::new(heap),
+        }
+    }
+
+    /// Makes so many calls, and asks all questions after each.
+    pub fn run(&mut self, calls: u32) -> anyhow::Result<()> {
+        self.shelf.clear();
+        for _ in 0..calls {
+            self.call()?;
+            self.ask()?;
+        }
+        ensure!(self.met.len() == MEETINGS, "an answer was never met");
+        Ok(())
+    }
+
+    // One random call.
+    fn call(&mut self) -> anyhow::Result<()> {
+        match self.random.below(400) {
+            0 => {
+                self.shelf.clear();
+                self.model.clear();
+                Ok(())
+            }
+            1..=230 => self.put(),
+            _ => self.take(),
+        }
+    }
+
+    fn put(&mut self) -> anyhow::Result<()> {
+        let number = self.random.below(self.numbers);
+        let length = self.length();
+        let packet = self.bytes(length)?;
+        let told = self.shelf.put(number, packet.as_slice());
+        ensure!(told == self.model.put(number, packet.as_slice())?, "put");
+        if let Err(fault) = told {
+            self.met.insert(Met::from(fault))?;
+        }
+        Ok(())
+    }
+
+    fn take(&mut self) -> anyhow::Result<()> {
+        let number = self.random.below(self.numbers);
+        let room = 1499 + self.random.below(8) as usize / 2;
+        let mut buffer = self.bytes(room)?;
+        let before = buffer.clone()?;
+        let told = self.shelf.take(number, buffer.as_mut_slice());
+        if room < 1500 {
+            self.met.insert(Met::Short)?;
+            ensure!(told == Err(TakeFault::Short), "take refuses");
+            ensure!(buffer == before, "take's buffer, refused");
+            return Ok(());
+        }
+        match (told, self.model.take(number)) {
+            (Ok(None), None) => {
+                self.met.insert(Met::Absent)?;
+                ensure!(buffer == before, "take's buffer, absent");
+                Ok(())
+            }
+            (Ok(Some(length)), Some(packet)) => {
+                self.met.insert(Met::Taken)?;
+                ensure!(length == packet.len(), "take's length");
+                ensure!(
+                    buffer.get(..length) == Some(packet.as_slice())
+                        && buffer.get(length..) == before.get(length..),
+                    "take's buffer"
+                );
+                Ok(())
+            }
+            _ => Err(anyhow::anyhow!("take")),
+        }
+    }
+
+    // Every question.
+    fn ask(&mut self) -> anyhow::Result<()> {
+        let number = self.random.below(self.numbers);
+        let length = self.length();
+        let (shelf, model) = (&self.shelf, &self.model);
+        ensure!(shelf.holds(number) == model.holds(number), "holds");
+        ensure!(
+            shelf.least_above(number) == model.least_above(number),
+            "least_above"
+        );
+        ensure!(
+            u64::from(shelf.price(length)) == model.price(length),
+            "price"
+        );
+        ensure!(u64::from(shelf.used()) == model.used(), "used");
+        Ok(())
+    }
+
+    // One of the lengths that matter, or a short one.
+    fn length(&mut self) -> usize {
+        match LENGTHS.get(self.random.below(26) as usize) {
+            Some(length) => *length,
+            None => 16 + self.random.below(200) as usize,
+        }
+    }
+
+    // So many random bytes.
+    fn bytes(&mut self, count: usize) -> Result<Vec<u8>, AllocError> {
+        let random = &mut self.random;
+        (0..count)
+            .map(|_| random.below(256) as u8)
+            .collect(self.heap)
+    }
+}
