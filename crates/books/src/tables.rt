@@ -60,6 +60,7 @@ impl Tables<'_, '_, '_> {
     ghost use Rattle.books.specs.Keepers.{tables_known, Spot, Nowhere};
 
     // The place of the book with a number, if there is one: the numbers count from 1.
+    // Kept as a `requires` of what takes a place: that it is one of these books' is a fact of the place and the tables together, which no field of either can hold.
     #[tactic(auto, using(crate::proofs::Rows::spot_is))]
     pub(crate) fn spot(&self, number: u16) -> Option<usize>
         ensures { MatchOption result (Nowhere (tables_known self.now) number) (λ i. Spot self.now number i) }
