@@ -1,7 +1,8 @@
--- The number of each refusal of a channel, and what stands beside it.
-use Rattle.std.specs.Prelude.{ℕ, Some, None, Option}
+-- The number of each refusal of a channel, and what stands beside it; and their texts.
+use Rattle.std.specs.Prelude.{ℕ, List, ◌++◌, Some, None, codes, decimal, Option}
 use Rattle.wire.specs.Faults.{fault_number}
-use Rattle.shelf.specs.Store.{put_fault_number}
+use Rattle.wire.specs.Texts.{fault_text}
+use Rattle.shelf.specs.Store.{put_fault_number, refused_text}
 use Rattle.handover.specs.declared.fault.ChannelFault.{ChannelFault}
 use Rattle.handover.specs.declared.fault.ChannelFault.TheVariants.{Short, Reset, Parts, Ahead, Behind, Far, Wide, Owed, Whole, Spent, Other, Zero, Source, Phase}
 use Rattle.handover.specs.declared.fault.OfferFault.{OfferFault}
@@ -29,3 +30,18 @@ abbrev pub offer_fault_number : OfferFault → ℕ
 offer_fault_number (Reader f) = fault_number f
 offer_fault_number (Shelf f) = put_fault_number f
 offer_fault_number (Channel f) = (channel_fault f).0
+
+-- a refusal of a channel, by its number
+abbrev pub channel_fault_text : ChannelFault → List ℕ
+channel_fault_text f = refused_text (channel_fault f).0
+
+-- a refusal of an offer by the channel: the next number stands beside a reset's
+abbrev pub next_text : Option ℕ → List ℕ
+next_text None = codes " by channel"
+next_text (Some x) = codes " by channel next=" ++ decimal x
+
+-- a refusal of an offer says who gave it
+abbrev pub offer_fault_text : OfferFault → List ℕ
+offer_fault_text (Reader f) = fault_text f
+offer_fault_text (Shelf f) = refused_text (put_fault_number f) ++ codes " by shelf"
+offer_fault_text (Channel f) = channel_fault_text f ++ next_text (channel_fault f).1

@@ -1,8 +1,11 @@
 //! Why a call of a channel is refused.
-ghost use Rattle.std.specs.Prelude.{◌≡◌};
-ghost use Rattle.handover.specs.Faults.{channel_fault, offer_fault_number};
+ghost use Rattle.std.specs.Prelude.{◌≡◌, Some};
+ghost use Rattle.handover.specs.declared.fault.OfferFault.TheVariants.{Reader, Shelf, Channel};
+ghost use Rattle.handover.specs.Faults.{channel_fault, channel_fault_text, offer_fault_number, offer_fault_text};
 
 use shelf::PutFault;
+use std::error::Error;
+use std::fmt;
 use wire::ReadFault;
 
 /// Why the channel itself refuses a call.
@@ -39,28 +42,48 @@ pub enum ChannelFault {
 }
 
 impl ChannelFault {
-    /// The refusal's number, and the next number that stands beside that of a reset.
-    pub fn number(self) -> (u8, Option<u32>)
-        ensures { result ≡ channel_fault self }
+    /// The refusal's number.
+    pub fn number(self) -> u8
+        ensures { result ≡ (channel_fault self).0 }
     {
         match self {
-            ChannelFault::Short => (1, None),
-            ChannelFault::Reset { next } => (8, Some(next)),
-            ChannelFault::Parts => (9, None),
-            ChannelFault::Ahead => (10, None),
-            ChannelFault::Behind => (11, None),
-            ChannelFault::Far => (12, None),
-            ChannelFault::Wide => (14, None),
-            ChannelFault::Owed => (15, None),
-            ChannelFault::Whole => (16, None),
-            ChannelFault::Spent => (17, None),
-            ChannelFault::Other => (18, None),
-            ChannelFault::Zero => (19, None),
-            ChannelFault::Source => (20, None),
-            ChannelFault::Phase => (23, None),
+            ChannelFault::Short => 1,
+            ChannelFault::Reset { .. } => 8,
+            ChannelFault::Parts => 9,
+            ChannelFault::Ahead => 10,
+            ChannelFault::Behind => 11,
+            ChannelFault::Far => 12,
+            ChannelFault::Wide => 14,
+            ChannelFault::Owed => 15,
+            ChannelFault::Whole => 16,
+            ChannelFault::Spent => 17,
+            ChannelFault::Other => 18,
+            ChannelFault::Zero => 19,
+            ChannelFault::Source => 20,
+            ChannelFault::Phase => 23,
+        }
+    }
+
+    /// The next number that stands beside the number of a reset.
+    pub fn next(self) -> Option<u32>
+        ensures { result ≡ (channel_fault self).1 }
+    {
+        match self {
+            ChannelFault::Reset { next } => Some(next),
+            _ => None,
         }
     }
 }
+
+impl fmt::Display for ChannelFault {
+    ghost output = { λ fault. Some (channel_fault_text fault) };
+
+    fn fmt<W: fmt::Write>(&self, f: &mut fmt::Formatter<W>) -> fmt::Result {
+        write!(f, "refused {}", self.number())
+    }
+}
+
+impl Error for ChannelFault {}
 
 /// Why an offer is refused: by the reader, the shelf or the channel, with the fault of each whole.
 #[derive(Clone, Copy, PartialEq, Eq, Debug)]
@@ -78,7 +101,48 @@ impl OfferFault {
         match self {
             OfferFault::Reader(f) => f.number(),
             OfferFault::Shelf(f) => f.number(),
-            OfferFault::Channel(f) => f.number().0,
+            OfferFault::Channel(f) => f.number(),
         }
     }
 }
+
+impl From<ReadFault> for OfferFault {
+    ghost from_gives = { λ f r. r ≡ Reader f };
+
+    fn from(fault: ReadFault) -> OfferFault {
+        OfferFault::Reader(fault)
+    }
+}
+
+impl From<PutFault> for OfferFault {
+    ghost from_gives = { λ f r. r ≡ Shelf f };
+
+    fn from(fault: PutFault) -> OfferFault {
+        OfferFault::Shelf(fault)
+    }
+}
+
+impl From<ChannelFault> for OfferFault {
+    ghost from_gives = { λ f r. r ≡ Channel f };
+
+    fn from(fault: ChannelFault) -> OfferFault {
+        OfferFault::Channel(fault)
+    }
+}
+
+impl fmt::Display for OfferFault {
+    ghost output = { λ fault. Some (offer_fault_text fault) };
+
+    fn fmt<W: fmt::Write>(&self, f: &mut fmt::Formatter<W>) -> fmt::Result {
+        match self {
+            OfferFault::Reader(fault) => write!(f, "{fault}"),
+            OfferFault::Shelf(fault) => write!(f, "{fault} by shelf"),
+            OfferFault::Channel(fault) => match fault.next() {
+                Some(next) => write!(f, "{fault} by channel next={next}"),
+                None => write!(f, "{fault} by channel"),
+            },
+        }
+    }
+}
+
+impl Error for OfferFault {}

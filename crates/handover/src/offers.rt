@@ -44,10 +44,10 @@ fn check_refresh(last: u32, packet: &Packet<'_>) -> Result<(), OfferFault>
     ensures { result ≡ unless (against_refresh last (packet_model packet.now)) tt }
 {
     if packet.flag != WHOLE_REFRESH || packet.link != ONE_PACKET {
-        return Err(OfferFault::Channel(ChannelFault::Parts));
+        return Err(ChannelFault::Parts.into());
     }
     if packet.number > last {
-        return Err(OfferFault::Channel(ChannelFault::Ahead));
+        return Err(ChannelFault::Ahead.into());
     }
     Ok(())
 }
@@ -110,20 +110,14 @@ impl<S: Sink, H: Shelf> Handover<S, H> {
         ensures answer { result ≡ unless (against_data self.old.last (H.Shelf.means self.old.shelf) number packet.now) tt }
         ensures after { flow (S.Sink) (H.Shelf) self.new scratch.new ≡ on_ok result (λ _. takes S.Sink.step (carries number (model message.entry)) packet.now (flow (S.Sink) (H.Shelf) self.old scratch.old)) (flow (S.Sink) (H.Shelf) self.old scratch.old) }
     {
-        if number <= self.last {
-            return Err(OfferFault::Channel(ChannelFault::Behind));
-        }
-        if self.shelf.holds(number) {
-            return Err(OfferFault::Channel(ChannelFault::Behind));
+        if number <= self.last || self.shelf.holds(number) {
+            return Err(ChannelFault::Behind.into());
         }
         if number as u64 > self.last as u64 + WINDOW {
-            return Err(OfferFault::Channel(ChannelFault::Far));
+            return Err(ChannelFault::Far.into());
         }
         if number - self.last > 1 {
-            return match self.shelf.put(number, packet) {
-                Ok(()) => Ok(()),
-                Err(fault) => Err(OfferFault::Shelf(fault)),
-            };
+            return Ok(self.shelf.put(number, packet)?);
         }
         self.sink.data(number, message);
         self.last = number;
@@ -138,13 +132,13 @@ impl<S: Sink, H: Shelf> Handover<S, H> {
         ensures after { flow (S.Sink) (H.Shelf) self.new scratch.new ≡ on_ok result (λ _. handed_on S.Sink.step (hands_to S.Sink.step end (flow (S.Sink) (H.Shelf) self.old scratch.old))) (flow (S.Sink) (H.Shelf) self.old scratch.old) }
     {
         if end <= self.last {
-            return Err(OfferFault::Channel(ChannelFault::Behind));
+            return Err(ChannelFault::Behind.into());
         }
         if begin as u64 > self.last as u64 + 1 {
-            return Err(OfferFault::Channel(ChannelFault::Ahead));
+            return Err(ChannelFault::Ahead.into());
         }
         if end as u64 + 1 - begin as u64 > WIDEST {
-            return Err(OfferFault::Channel(ChannelFault::Wide));
+            return Err(ChannelFault::Wide.into());
         }
         self.hand_to(end, scratch);
         self.drain(scratch);
@@ -163,7 +157,7 @@ impl<S: Sink, H: Shelf> Handover<S, H> {
         ensures after { flow (S.Sink) (H.Shelf) self.new scratch.new ≡ on_ok result (λ _. takes S.Sink.step (brought (packet_model packet.now)) bytes.now (flow (S.Sink) (H.Shelf) self.old scratch.old)) (flow (S.Sink) (H.Shelf) self.old scratch.old) }
     {
         match packet.message {
-            Message::Reset { next } => Err(OfferFault::Channel(ChannelFault::Reset { next })),
+            Message::Reset { next } => Err(ChannelFault::Reset { next }.into()),
             Message::Unavailable { begin, end } => self.offer_range(begin, end, scratch),
             Message::Full { .. } if matches!(packet.flag, 5 | 6) => {
                 check_refresh(self.last, packet)?;
@@ -189,13 +183,10 @@ impl<S: Sink, H: Shelf> Handover<S, H> {
         ensures after { flow (S.Sink) (H.Shelf) self.new scratch.new ≡ flow_after S.Sink.step (flow (S.Sink) (H.Shelf) self.old scratch.old) packet.now }
     {
         if scratch.len() < LONGEST {
-            return Err(OfferFault::Channel(ChannelFault::Short));
+            return Err(ChannelFault::Short.into());
         }
         let before = self.last;
-        let read = match read(packet) {
-            Ok(read) => read,
-            Err(fault) => return Err(OfferFault::Reader(fault)),
-        };
+        let read = read(packet)?;
         self.offer_read(&read, packet, scratch)?;
         Ok(Taken {
             last: self.last,
