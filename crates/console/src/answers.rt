@@ -1,12 +1,8 @@
 //! The answer to a line of a script.
 ghost use Rattle.std.specs.Prelude.{◌≡◌, IfOk, string_bytes};
-ghost use Rattle.std.specs.Option.{option_map};
 ghost use Rattle.wire.specs.Reading.{reading, model};
 ghost use Rattle.console.specs.Texts.{point_count, point_text, points_text, reading_text};
-ghost use Rattle.console.specs.Commands.{command_in};
-ghost use Rattle.console.specs.Answers.{answer_to};
 
-use crate::command::{Command, parse};
 use crate::text::{delta_text, fault_text, level_text, packet_text};
 use std::alloc::{AllocError, Global};
 use wire::{Message, delta_count, delta_point, full_count, full_point, read};
@@ -65,16 +61,5 @@ pub fn read_answer(heap: Global, packet: &[u8]) -> Result<String, AllocError>
             let refusal = fault_text(heap, fault)?;
             format!(in heap; "{refusal}\n")
         }
-    }
-}
-
-/// The answer to a line, each line of it ended; `None` to a line that is passed over.
-pub fn answer(heap: Global, line: &[u8]) -> Result<Option<String>, AllocError>
-    ensures { IfOk result (λ o. option_map string_bytes o ≡ answer_to (command_in line.now)) }
-{
-    match parse(heap, line)? {
-        Command::Pass => Ok(None),
-        Command::Unreadable => Ok(Some(String::from_str(heap, "unreadable\n")?)),
-        Command::Read(packet) => Ok(Some(read_answer(heap, packet.as_slice())?)),
     }
 }

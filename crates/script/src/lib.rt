@@ -1,12 +1,15 @@
 //! What a line of a script asks.
 #![tactic(auto)]
 
+mod answers;
 mod command;
+mod error;
 mod fields;
 mod number;
 mod setup;
 mod verb;
-mod words;
 
+pub use answers::answer;
 pub use command::{Command, parse};
+pub use error::ParseError;
 pub use setup::{Setup, ShelfKind};
