@@ -1,3 +1,4 @@
+pub mod Pointing
 mod Firsts
 mod Requests
 mod Judging

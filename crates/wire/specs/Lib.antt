@@ -1,7 +1,9 @@
 pub mod Faults
 pub mod Bytes
+pub mod Texts
 pub mod Prices
 pub mod Points
+pub mod Shifted
 pub mod Reading
 pub mod Request
 pub mod Laws

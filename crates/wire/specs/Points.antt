@@ -1,9 +1,11 @@
 -- The points of a full update and of a delta. An offset counts from the first point.
-use Rattle.std.specs.Prelude.{ℕ, ◌+◌, ◌*◌, ◌/◌, cond, List, length, Some, None, Option, ◌==◌, nat_lt, slice_index}
+use Rattle.std.specs.Prelude.{◌≡◌, ℕ, ◌+◌, ◌*◌, ◌/◌, cond, List, map, length, drop, Some, None, Ok, Err, Option, Result, ◌==◌, nat_lt, slice_index}
+use Rattle.std.specs.List.{range_with_len}
 use Rattle.wire.specs.declared.point.Side.{Side}
 use Rattle.wire.specs.declared.point.Side.TheVariants.{Buy, Sell}
 use Rattle.wire.specs.declared.point.Reason.{Reason}
 use Rattle.wire.specs.declared.point.Reason.TheVariants.{Order, Cancel, Execution, Multiple}
+use Rattle.wire.specs.declared.point.UnknownLetter.{UnknownLetter}
 use Rattle.wire.specs.declared.point.PricePoint.{PricePoint}
 use Rattle.wire.specs.declared.point.DeltaPoint.{DeltaPoint}
 use Rattle.wire.specs.Bytes.{be16, be32}
@@ -27,6 +29,18 @@ side_of b = cond (b == 66) Buy Sell
 -- the reason of a letter; a packet that is read has O, C, E or X
 abbrev pub reason_of : ℕ → Reason
 reason_of b = cond (b == 79) Order (cond (b == 67) Cancel (cond (b == 69) Execution Multiple))
+
+-- the side or the reason that a letter names, where it names one
+abbrev pub side_in : ℕ → Result Side UnknownLetter
+side_in b = cond (b == 66) (Ok Buy) (cond (b == 83) (Ok Sell) (Err (record { 0 = b })))
+
+abbrev pub reason_in : ℕ → Result Reason UnknownLetter
+reason_in b =
+    cond (b == 79) (Ok Order)
+    (cond (b == 67) (Ok Cancel)
+    (cond (b == 69) (Ok Execution)
+    (cond (b == 88) (Ok Multiple)
+    (Err (record { 0 = b })))))
 
 -- the point of a full update at an offset
 abbrev pub full_at : List ℕ → ℕ → PricePoint
@@ -52,3 +66,12 @@ full_point ps i = cond (nat_lt i (length ps / 12)) (Some (full_at ps (i * 12))) 
 
 abbrev pub delta_point : List ℕ → ℕ → Option DeltaPoint
 delta_point ps i = cond (nat_lt i (length ps / 28)) (Some (delta_at ps (i * 28))) None
+
+module _ {P : Type 0} (size : ℕ) (at : List ℕ → ℕ → P) where
+  -- the points of a part of a packet, each of so many bytes: what `at` says at the offset of each
+  unfoldable pub points : List ℕ → List P
+  points ps = map (λ i. at ps (i * size)) (range_with_len 0 (length ps / size))
+
+-- what begins at an offset behind the first n bytes begins n bytes further in the whole
+abbrev pub Shifts : {P : Type 0} → (List ℕ → ℕ → P) → Type 0
+Shifts at = (ps : List ℕ) (n o : ℕ) → at (drop n ps) o ≡ at ps (n + o)

@@ -1,6 +1,10 @@
 //! Why a packet is refused, or a request is not written.
-ghost use Rattle.std.specs.Prelude.{◌≡◌};
+ghost use Rattle.std.specs.Prelude.{◌≡◌, Some};
 ghost use Rattle.wire.specs.Faults.{fault_number, fault_offset, request_fault_number};
+ghost use Rattle.wire.specs.Texts.{fault_text, request_fault_text};
+
+use std::error::Error;
+use std::fmt;
 
 /// Why the reader refuses a packet.
 #[derive(Clone, Copy, PartialEq, Eq, Debug)]
@@ -45,6 +49,20 @@ impl ReadFault {
     }
 }
 
+impl fmt::Display for ReadFault {
+    ghost output = { λ fault. Some (fault_text fault) };
+
+    fn fmt<W: fmt::Write>(&self, f: &mut fmt::Formatter<W>) -> fmt::Result {
+        let number = self.number();
+        match self.offset() {
+            Some(offset) => write!(f, "refused {number} by reader offset={offset}"),
+            None => write!(f, "refused {number} by reader"),
+        }
+    }
+}
+
+impl Error for ReadFault {}
+
 /// Why a request is not written.
 #[derive(Clone, Copy, PartialEq, Eq, Debug)]
 pub enum RequestFault {
@@ -65,3 +83,13 @@ impl RequestFault {
         }
     }
 }
+
+impl fmt::Display for RequestFault {
+    ghost output = { λ fault. Some (request_fault_text fault) };
+
+    fn fmt<W: fmt::Write>(&self, f: &mut fmt::Formatter<W>) -> fmt::Result {
+        write!(f, "refused {}", self.number())
+    }
+}
+
+impl Error for RequestFault {}

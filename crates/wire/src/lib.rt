@@ -5,6 +5,7 @@ mod fault;
 mod fields;
 mod message;
 mod point;
+mod points;
 mod price;
 mod reader;
 mod request;
@@ -12,8 +13,10 @@ mod request;
 pub use fault::{ReadFault, RequestFault};
 pub use message::{Class, Message, Packet};
 pub use point::{
-    DeltaPoint, PricePoint, Reason, Side, delta_count, delta_point, full_count, full_point,
+    DeltaPoint, PricePoint, Reason, Side, UnknownLetter, delta_count, delta_point, full_count,
+    full_point,
 };
+pub use points::{Point, Points};
 pub use price::billionths;
 pub use reader::read;
 pub use request::{REQUEST, is_source, write_request};
