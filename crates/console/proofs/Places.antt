@@ -1,9 +1,9 @@
 -- The first word of a line, by the places of its first letter and of the blank behind it.
-use Rattle.std.proofs.Common.{◌≡◌, ℕ, suc, ◌+◌, ◌<◌, ◌≤◌, ◌-◌, Bool, true, false, not, List, [], ◌∷◌, length, take, drop, drop_of_length-le, length-drop, Some, None, Option, cond, position, refl, ap, sym, ◌∙◌, arith, ltb, rules}
+use Rattle.std.proofs.Common.{◌≡◌, ℕ, suc, ◌+◌, ◌<◌, ◌≤◌, Bool, true, false, not, List, [], ◌∷◌, length, take, drop, drop_of_length-le, length-drop, Some, None, Option, cond, position, refl, ap, sym, ◌∙◌, arith, ltb}
 use Rattle.std.specs.List.{position_or_len}
 use Rattle.std.specs.Option.{unwrap_or}
 use Rattle.std.proofs.lemmas.List.Sums.{prefix_len-le-length}
-use Rattle.std.proofs.lemmas.Bool.{cases_Bool, ltb-true, ltb-false, cond-true, cond-false}
+use Rattle.std.proofs.lemmas.Bool.{ltb-true, ltb-false}
 use Rattle.console.specs.Words.{blank, skip_blanks, word_length, cut_word, next_word}
 
 one_more : (n : ℕ) → 1 + n ≡ suc n

@@ -6,5 +6,5 @@ mod text;
 mod words;
 
 pub use answers::read_answer;
-pub use text::{HELP, fault_text, packet_text, price_text, priced_level_text};
+pub use text::{Dollars, Heading, PricedLevel};
 pub use words::next_word;
