@@ -13,6 +13,7 @@ use shelf::{PutFault, Shelf, TakeFault};
 use slot_shelf::SlotShelf;
 
 /// One of two shelves.
+// Kept as an enum of its own: an impl of a trait of another crate needs a type of this one, and the trait's crate would know the kit's `Either` for no more than two other names of variants.
 #[derive(Drop)]
 pub enum Either<A, B> {
     First(A),
@@ -77,6 +78,7 @@ impl<A: Shelf, B: Shelf> Shelf for Either<A, B> {
 /// Slots, or a chain.
 pub type AnyShelf = Either<SlotShelf, ChainShelf>;
 
+// Kept as functions with names, not `From` and `TryFrom`: the name says which of the two shelves it is.
 impl AnyShelf {
     /// Empty slots.
     pub fn slots() -> AnyShelf
@@ -90,7 +92,7 @@ impl AnyShelf {
         ensures when { is_ok result ≡ fit (vec_len bytes) }
         ensures means { MatchResult result (λ s. any_store s ≡ fresh (vec_len bytes)) (λ e. e ≡ RegionFault.Size bytes) }
     {
-        let region = Region::check(bytes)?;
+        let region = Region::try_from(bytes)?;
         Ok(Either::Second(ChainShelf::new(region)))
     }
 }

@@ -13,3 +13,4 @@ mod Lays
 mod Fresh
 mod Stores
 mod Walks
+mod Writes

@@ -1,12 +1,12 @@
 //! The shelf.
-ghost use Rattle.std.specs.Prelude.{◌≡◌, ◌+◌, ◌*◌, vec_len};
-ghost use Rattle.chain_shelf.specs.Chain.{Kept, store, fresh};
+ghost use Rattle.std.specs.Prelude.{◌≡◌, ◌+◌, ◌-◌, ◌*◌, ◌/◌, ◌≤◌, true, false, length, vec_len, Some};
+ghost use Rattle.shelf.specs.Store.{has, insert, remove, lookup, above, length_of, written, right};
+ghost use Rattle.chain_shelf.specs.Records.{records, span};
+ghost use Rattle.chain_shelf.specs.Chain.{Kept, Before, held, spent, store, fresh};
 ghost use Rattle.chain_shelf.specs.Sounds.{store_lawful};
 
-use crate::packets::{
-    free_all, number_behind, price_of, put_behind, stands_behind, take_behind, used_in,
-};
-use crate::records::seek;
+use crate::packets::{free_all, lay_packet, price_of, unlink};
+use crate::records::{BODY, LAST, NEXT, SIZE, USED, copy, number_at, read};
 use crate::region::{RECORD, Region};
 use shelf::{LONGEST, PutFault, Shelf, TakeFault};
 
@@ -19,20 +19,101 @@ pub struct ChainShelf {
 
 impl ChainShelf {
     /// An empty shelf in a region.
+    // Kept as a constructor, not a `From`: what lay in the region is lost.
     pub fn new(region: Region) -> ChainShelf
         ensures { store result.region.items ≡ fresh (vec_len region.bytes) }
     {
-        let mut region = region.into_bytes();
+        let mut region = Vec::from(region);
         free_all(&mut region[..]);
         ChainShelf { region }
     }
 
-    /// The memory, given back.
-    pub fn into_region(self) -> Vec<u8>
-        ensures same { result ≡ self.region }
-        ensures size { vec_len result ≡ 64 * ((store self.region.items).total + 1) }
+    // The first record of the last packet whose number is below the given one, or 0: a walk from the first packet.
+    fn walk_to(&self, number: u64) -> u16
+        ensures { Before self.now.region.items number result }
     {
-        let ChainShelf { region } = self;
+        let bytes = &self.region[..];
+        let mut prev = 0;
+        let mut at = read(bytes, 0, NEXT);
+        while at != 0 && u64::from(number_at(bytes, at)) < number {
+            prev = at;
+            at = read(bytes, at, NEXT);
+        }
+        prev
+    }
+
+    // The same, with no walk where the number is above every number held.
+    fn seek(&self, number: u64) -> u16
+        ensures { Before self.now.region.items number result }
+    {
+        let bytes = &self.region[..];
+        let last = read(bytes, 0, LAST);
+        if last == 0 || u64::from(number_at(bytes, last)) < number {
+            return last;
+        }
+        self.walk_to(number)
+    }
+
+    // Whether the packet behind the one at `prev` has the number.
+    fn stands_behind(&self, prev: u16, number: u32) -> bool
+        requires { Before self.now.region.items number prev }
+        ensures { result ≡ has (held self.now.region.items) number }
+    {
+        let bytes = &self.region[..];
+        let at = read(bytes, prev, NEXT);
+        at != 0 && number_at(bytes, at) == number
+    }
+
+    // The number of the packet behind the one at `prev`: the least above the given number.
+    fn number_behind(&self, prev: u16, number: u32) -> Option<u32>
+        requires { Before self.now.region.items (number + 1) prev }
+        ensures { result ≡ above (held self.now.region.items) number }
+    {
+        let bytes = &self.region[..];
+        let at = read(bytes, prev, NEXT);
+        if at == 0 {
+            return None;
+        }
+        Some(number_at(bytes, at))
+    }
+
+    // Keeps a packet behind the one at `prev`.
+    fn put_behind(&mut self, prev: u16, number: u32, packet: &[u8])
+        requires prev { Before self.old.region.items number prev }
+        requires proper { right (length packet.now) ≡ true }
+        requires absent { has (held self.old.region.items) number ≡ false }
+        requires room { spent self.old.region.items + span 10 (length packet.now) ≤ records self.old.region.items - 1 }
+        ensures held { held self.new.region.items ≡ insert number packet.now (held self.old.region.items) }
+        ensures size { length self.new.region.items ≡ length self.old.region.items }
+    {
+        lay_packet(&mut self.region[..], prev, number, packet);
+    }
+
+    // Moves the packet behind the one at `prev` to the front of the buffer, and answers its length.
+    fn take_behind(&mut self, prev: u16, number: u32, buffer: &mut [u8]) -> usize
+        requires prev { Before self.old.region.items number prev }
+        requires long { 1500 ≤ length buffer.old }
+        requires present { has (held self.old.region.items) number ≡ true }
+        ensures held { held self.new.region.items ≡ remove number (held self.old.region.items) }
+        ensures count { length self.new.region.items ≡ length self.old.region.items }
+        ensures size { Some result ≡ length_of (lookup (held self.old.region.items) number) }
+        ensures buffer { buffer.new ≡ written (lookup (held self.old.region.items) number) buffer.old }
+    {
+        let bytes = &mut self.region[..];
+        let first = read(bytes, prev, NEXT);
+        let size = usize::from(read(bytes, first, SIZE));
+        let stop = copy(bytes, first, BODY, &mut buffer[..size]);
+        unlink(bytes, prev, first, stop);
+        size
+    }
+}
+
+/// The memory, given back.
+impl From<ChainShelf> for Vec<u8> {
+    ghost from_gives = { λ shelf bytes. (bytes ≡ shelf.region) × (vec_len bytes ≡ 64 * ((store shelf.region.items).total + 1)) };
+
+    fn from(shelf: ChainShelf) -> Vec<u8> {
+        let ChainShelf { region } = shelf;
         region
     }
 }
@@ -47,14 +128,14 @@ impl Shelf for ChainShelf {
         if cost == 0 {
             return Err(PutFault::Length);
         }
-        let prev = seek(&self.region[..], number as u64);
-        if stands_behind(&self.region[..], prev, number) {
+        let prev = self.seek(u64::from(number));
+        if self.stands_behind(prev, number) {
             return Err(PutFault::Held);
         }
         if self.used() as usize + cost as usize > self.region.len() / RECORD - 1 {
             return Err(PutFault::Full);
         }
-        put_behind(&mut self.region[..], prev, number, packet);
+        self.put_behind(prev, number, packet);
         Ok(())
     }
 
@@ -62,21 +143,21 @@ impl Shelf for ChainShelf {
         if buffer.len() < LONGEST {
             return Err(TakeFault::Short);
         }
-        let prev = seek(&self.region[..], number as u64);
-        if !stands_behind(&self.region[..], prev, number) {
+        let prev = self.seek(u64::from(number));
+        if !self.stands_behind(prev, number) {
             return Ok(None);
         }
-        Ok(Some(take_behind(&mut self.region[..], prev, number, buffer)))
+        Ok(Some(self.take_behind(prev, number, buffer)))
     }
 
     fn holds(&self, number: u32) -> bool {
-        let prev = seek(&self.region[..], number as u64);
-        stands_behind(&self.region[..], prev, number)
+        let prev = self.seek(u64::from(number));
+        self.stands_behind(prev, number)
     }
 
     fn least_above(&self, number: u32) -> Option<u32> {
-        let prev = seek(&self.region[..], number as u64 + 1);
-        number_behind(&self.region[..], prev, number)
+        let prev = self.seek(u64::from(number) + 1);
+        self.number_behind(prev, number)
     }
 
     fn price(&self, length: usize) -> u32 {
@@ -84,7 +165,7 @@ impl Shelf for ChainShelf {
     }
 
     fn used(&self) -> u32 {
-        used_in(&self.region[..])
+        u32::from(read(&self.region[..], 0, USED))
     }
 
     fn clear(&mut self) {

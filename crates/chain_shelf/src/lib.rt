@@ -10,6 +10,8 @@
 //! | a free one | 0-1 the next free record |
 //!
 //! Numbers rise from packet to packet. So the least number held is at the front, and a number above the last packet's is known to be absent.
+// Kept as records of bytes that name one another by number, not as boxes: a shelf takes no memory but the region that it is given.
+// Kept as a number, not an Option, where a link is read: record 0 is the head of the chains, so its number is a place to stand before, and what ends a chain is that same number, written back as it was read.
 #![tactic(auto)]
 
 mod chain_shelf;
@@ -19,4 +21,4 @@ mod region;
 
 pub use chain_shelf::ChainShelf;
 pub use packets::price_of;
-pub use region::{Region, RegionFault};
+pub use region::{Region, RegionFault, region_sizes};

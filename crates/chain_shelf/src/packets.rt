@@ -1,12 +1,10 @@
-//! Packets in the chains: laid in, found, taken out.
-ghost use Rattle.std.specs.Prelude.{◌≡◌, ℕ, ◌+◌, ◌-◌, ◌/◌, ◌%◌, ◌<◌, ◌≤◌, true, false, ◌⊎◌, [], length, if◌then◌else◌, Some};
+//! Packets in the chains: laid in, taken out.
+ghost use Rattle.std.specs.Prelude.{◌≡◌, ℕ, ◌+◌, ◌-◌, ◌/◌, ◌%◌, ◌<◌, ◌≤◌, ◌⊎◌, [], length, if◌then◌else◌};
 ghost use Rattle.chain_shelf.specs.Records.{mem, records, link, next, number as number_of, size as size_of, tail, in_use, span, walk, cnt, Apart, Inside};
-ghost use Rattle.shelf.specs.Store.{has, insert, remove, lookup, above, length_of, written, right};
-ghost use Rattle.chain_shelf.specs.Chain.{held, spent, end, PriceLaw, PricesWorked, Whole, Kept, Before, LaidIn, TakenOut};
+ghost use Rattle.shelf.specs.Store.{right};
+ghost use Rattle.chain_shelf.specs.Chain.{held, end, PriceLaw, PricesWorked, Whole, Kept, LaidIn, TakenOut};
 
-use crate::records::{
-    BODY, LAST, LINK, MORE, NEXT, NUMBER, SIZE, USED, WORD, copy, fill, number_at, read, write,
-};
+use crate::records::{BODY, LAST, LINK, MORE, NEXT, NUMBER, SIZE, USED, WORD, fill, read, write};
 use crate::region::RECORD;
 use shelf::{LONGEST, SHORTEST};
 
@@ -17,27 +15,22 @@ const FIRST_ROOM: usize = RECORD - BODY;
 const ROOM: usize = RECORD - MORE;
 
 /// Writes what a packet's first record has before its bytes, but for the link.
-fn head(bytes: &mut [u8], index: usize, after: usize, number: u32, size: usize)
-    requires at { index < records bytes.old }
-    requires after { after < 65536 }
-    requires size { size < 65536 }
+fn head(bytes: &mut [u8], index: u16, after: u16, number: u32, size: u16)
+    requires { index < records bytes.old }
     ensures after { next (mem bytes.new) index ≡ after }
     ensures number { number_of (mem bytes.new) index ≡ number }
     ensures size { size_of (mem bytes.new) index ≡ size }
     ensures others { (s q : ℕ) → q < 64 → (s ≡ index → (q < 2) ⊎ (10 ≤ q)) → mem bytes.new s q ≡ mem bytes.old s q }
 {
     write(bytes, index, NEXT, after);
-    write(bytes, index, NUMBER, (number % WORD) as usize);
-    write(bytes, index, NUMBER + 2, (number / WORD) as usize);
+    write(bytes, index, NUMBER, (number % WORD) as u16);
+    write(bytes, index, NUMBER + 2, (number / WORD) as u16);
     write(bytes, index, SIZE, size);
 }
 
 /// Writes what record 0 has, but for the link to the first packet.
-fn lead(bytes: &mut [u8], free: usize, last: usize, used: usize)
-    requires some { 0 < records bytes.old }
-    requires free { free < 65536 }
-    requires last { last < 65536 }
-    requires used { used < 65536 }
+fn lead(bytes: &mut [u8], free: u16, last: u16, used: u16)
+    requires { 0 < records bytes.old }
     ensures free { link (mem bytes.new) 0 ≡ free }
     ensures last { tail (mem bytes.new) ≡ last }
     ensures used { in_use (mem bytes.new) ≡ used }
@@ -49,11 +42,9 @@ fn lead(bytes: &mut [u8], free: usize, last: usize, used: usize)
 }
 
 /// The last packet's first record, now that `after` follows `first`: that is `first` where `after` is 0.
-fn end_of(bytes: &[u8], after: usize, first: usize) -> usize
-    requires some { 0 < records bytes.now }
-    requires first { first < 65536 }
-    ensures is { result ≡ end after first (tail (mem bytes.now)) }
-    ensures small { result < 65536 }
+fn end_of(bytes: &[u8], after: u16, first: u16) -> u16
+    requires { 0 < records bytes.now }
+    ensures { result ≡ end after first (tail (mem bytes.now)) }
 {
     if after == 0 {
         return first;
@@ -62,7 +53,7 @@ fn end_of(bytes: &[u8], after: usize, first: usize) -> usize
 }
 
 /// Lays a packet into the first free records, behind the packet whose first record is `prev`.
-fn lay_packet(bytes: &mut [u8], prev: usize, number: u32, packet: &[u8])
+pub(crate) fn lay_packet(bytes: &mut [u8], prev: u16, number: u32, packet: &[u8])
     requires prev { prev < records bytes.old }
     requires size { length packet.now ≤ 1500 }
     requires few { in_use (mem bytes.old) + span 10 (length packet.now) < 65536 }
@@ -75,7 +66,7 @@ fn lay_packet(bytes: &mut [u8], prev: usize, number: u32, packet: &[u8])
     let after = read(bytes, prev, NEXT);
     let last = end_of(bytes, after, first);
     let used = read(bytes, 0, USED) + span_of(packet.len());
-    head(bytes, first, after, number, packet.len());
+    head(bytes, first, after, number, packet.len() as u16);
     let stop = fill(bytes, first, BODY, packet);
     let free = read(bytes, stop, LINK);
     write(bytes, stop, LINK, 0);
@@ -84,8 +75,7 @@ fn lay_packet(bytes: &mut [u8], prev: usize, number: u32, packet: &[u8])
 }
 
 /// Takes the packet at `first` out of the chain, behind the one at `prev`, and frees its records, up to the one at `stop`.
-fn unlink(bytes: &mut [u8], prev: usize, first: usize, stop: usize)
-    requires most { records bytes.old ≤ 65535 }
+pub(crate) fn unlink(bytes: &mut [u8], prev: u16, first: u16, stop: u16)
     requires prev { prev < records bytes.old }
     requires first { first < records bytes.old }
     requires stop { stop < records bytes.old }
@@ -96,76 +86,22 @@ fn unlink(bytes: &mut [u8], prev: usize, first: usize, stop: usize)
 {
     let after = read(bytes, first, NEXT);
     let last = end_of(bytes, after, prev);
-    let used = read(bytes, 0, USED) - span_of(read(bytes, first, SIZE));
+    let used = read(bytes, 0, USED) - span_of(usize::from(read(bytes, first, SIZE)));
     let free = read(bytes, 0, LINK);
     write(bytes, prev, NEXT, after);
     write(bytes, stop, LINK, free);
     lead(bytes, first, last, used);
 }
 
-/// Whether the packet behind the one at `prev` has the number.
-pub(crate) fn stands_behind(bytes: &[u8], prev: usize, number: u32) -> bool
-    requires kept { Kept bytes.now }
-    requires prev { Before bytes.now number prev }
-    ensures { result ≡ has (held bytes.now) number }
-{
-    let at = read(bytes, prev, NEXT);
-    at != 0 && number_at(bytes, at) == number as u64
-}
-
-/// The number of the packet behind the one at `prev`: the least above the given number.
-pub(crate) fn number_behind(bytes: &[u8], prev: usize, number: u32) -> Option<u32>
-    requires kept { Kept bytes.now }
-    requires prev { Before bytes.now (number + 1) prev }
-    ensures { result ≡ above (held bytes.now) number }
-{
-    let at = read(bytes, prev, NEXT);
-    if at == 0 {
-        return None;
-    }
-    Some(number_at(bytes, at) as u32)
-}
-
-/// Keeps a packet behind the one at `prev`.
-pub(crate) fn put_behind(bytes: &mut [u8], prev: usize, number: u32, packet: &[u8])
-    requires kept { Kept bytes.old }
-    requires prev { Before bytes.old number prev }
-    requires proper { right (length packet.now) ≡ true }
-    requires absent { has (held bytes.old) number ≡ false }
-    requires room { spent bytes.old + span 10 (length packet.now) ≤ records bytes.old - 1 }
-    ensures kept { Kept bytes.new }
-    ensures held { held bytes.new ≡ insert number packet.now (held bytes.old) }
-{
-    lay_packet(bytes, prev, number, packet);
-}
-
-/// Moves the packet behind the one at `prev` to the front of the buffer, and answers its length.
-pub(crate) fn take_behind(bytes: &mut [u8], prev: usize, number: u32, buffer: &mut [u8]) -> usize
-    requires kept { Kept bytes.old }
-    requires prev { Before bytes.old number prev }
-    requires long { 1500 ≤ length buffer.old }
-    requires present { has (held bytes.old) number ≡ true }
-    ensures kept { Kept bytes.new }
-    ensures held { held bytes.new ≡ remove number (held bytes.old) }
-    ensures size { Some result ≡ length_of (lookup (held bytes.old) number) }
-    ensures buffer { buffer.new ≡ written (lookup (held bytes.old) number) buffer.old }
-{
-    let first = read(bytes, prev, NEXT);
-    let size = read(bytes, first, SIZE);
-    let stop = copy(bytes, first, BODY, &mut buffer[0..size]);
-    unlink(bytes, prev, first, stop);
-    size
-}
-
 /// The records that a packet of a length takes.
-fn span_of(length: usize) -> usize
+fn span_of(length: usize) -> u16
     requires { length ≤ 1500 }
     ensures { result ≡ span 10 length }
 {
     if length <= FIRST_ROOM {
         return 1;
     }
-    1 + (length - FIRST_ROOM + ROOM - 1) / ROOM
+    1 + (length - FIRST_ROOM).div_ceil(ROOM) as u16
 }
 
 /// The price of a length: the records that such a packet takes, or 0 where there is no such packet.
@@ -177,15 +113,7 @@ pub fn price_of(length: usize) -> u32
     if length < SHORTEST || length > LONGEST {
         return 0;
     }
-    span_of(length) as u32
-}
-
-/// The records that are in use.
-pub(crate) fn used_in(bytes: &[u8]) -> u32
-    requires { Kept bytes.now }
-    ensures { result ≡ spent bytes.now }
-{
-    read(bytes, 0, USED) as u32
+    u32::from(span_of(length))
 }
 
 /// Frees every record, in order.
@@ -194,7 +122,7 @@ pub(crate) fn free_all(bytes: &mut [u8])
     ensures kept { Kept bytes.new }
     ensures held { held bytes.new ≡ [] }
 {
-    let count = bytes.len() / RECORD;
+    let count = (bytes.len() / RECORD) as u16;
     for r in 1..count {
         let after = if r + 1 < count { r + 1 } else { 0 };
         write(bytes, r, LINK, after);

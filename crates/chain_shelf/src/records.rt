@@ -1,9 +1,10 @@
 //! Records and chains of records.
 ghost use Rattle.std.specs.Prelude.{◌≡◌, ℕ, ◌+◌, ◌-◌, ◌*◌, ◌/◌, ◌%◌, ◌<◌, ◌≤◌, ◌⊎◌, length};
 ghost use Rattle.chain_shelf.specs.Records.{mem, records, word, link, number, cut, span, walk, gather, cnt, Apart, Inside, last};
-ghost use Rattle.chain_shelf.specs.Chain.{Kept, Before};
 
 use crate::region::RECORD;
+
+// That an index is one of the region's records is asked of each call, and not a fact of a type: an index is a number that was read from these very bytes, and they change beneath it.
 
 /// Where a record has the link to the next one of its chain; record 0, to the first free record.
 pub(crate) const LINK: usize = 0;
@@ -33,36 +34,38 @@ pub(crate) const USED: usize = 6;
 pub(crate) const WORD: u32 = 65536;
 
 /// The number in two bytes of a record, the low one first.
-pub(crate) fn read(bytes: &[u8], index: usize, offset: usize) -> usize
+pub(crate) fn read(bytes: &[u8], index: u16, offset: usize) -> u16
     requires { (offset < 63) × (index < records bytes.now) }
-    ensures is { result ≡ word (mem bytes.now) index offset }
-    ensures small { result < 65536 }
+    ensures { result ≡ word (mem bytes.now) index offset }
 {
-    bytes[RECORD * index + offset] as usize + 256 * (bytes[RECORD * index + (offset + 1)] as usize)
+    let at = RECORD * usize::from(index) + offset;
+    u16::from_le_bytes([bytes[at], bytes[at + 1]])
 }
 
 /// Writes two bytes of a record, the low one first.
-pub(crate) fn write(bytes: &mut [u8], index: usize, offset: usize, value: usize)
-    requires { (offset < 63) × ((index < records bytes.old) × (value < 65536)) }
+pub(crate) fn write(bytes: &mut [u8], index: u16, offset: usize, value: u16)
+    requires { (offset < 63) × (index < records bytes.old) }
     ensures there { word (mem bytes.new) index offset ≡ value }
     ensures others { (s q : ℕ) → q < 64 → (s ≡ index → offset ≤ q → q ≤ offset + 1 → ⊥) → mem bytes.new s q ≡ mem bytes.old s q }
 {
-    bytes[RECORD * index + offset] = (value % 256) as u8;
-    bytes[RECORD * index + (offset + 1)] = (value / 256) as u8;
+    let at = RECORD * usize::from(index) + offset;
+    let [low, high] = value.to_le_bytes();
+    bytes[at] = low;
+    bytes[at + 1] = high;
 }
 
 /// Writes a part of a packet into a record.
-pub(crate) fn lay_in(bytes: &mut [u8], index: usize, offset: usize, part: &[u8])
+pub(crate) fn lay_in(bytes: &mut [u8], index: u16, offset: usize, part: &[u8])
     requires { (offset + length part.now ≤ 64) × (index < records bytes.old) }
     ensures there { cut (mem bytes.new) index offset (length part.now) ≡ part.now }
     ensures others { (s q : ℕ) → q < 64 → (s ≡ index → offset ≤ q → q < offset + length part.now → ⊥) → mem bytes.new s q ≡ mem bytes.old s q }
 {
-    let at = RECORD * index + offset;
+    let at = RECORD * usize::from(index) + offset;
     bytes[at..at + part.len()].copy_from_slice(part);
 }
 
 /// Writes bytes through a chain of records, and says which record is the last.
-pub(crate) fn fill(bytes: &mut [u8], index: usize, offset: usize, part: &[u8]) -> usize
+pub(crate) fn fill(bytes: &mut [u8], index: u16, offset: usize, part: &[u8]) -> u16
     requires low { 2 ≤ offset }
     requires high { offset < 64 }
     requires at { index < records bytes.old }
@@ -84,7 +87,7 @@ pub(crate) fn fill(bytes: &mut [u8], index: usize, offset: usize, part: &[u8]) -
 }
 
 /// Reads a packet through its chain of records, and says which record is the last.
-pub(crate) fn copy(bytes: &[u8], index: usize, offset: usize, buffer: &mut [u8]) -> usize
+pub(crate) fn copy(bytes: &[u8], index: u16, offset: usize, buffer: &mut [u8]) -> u16
     requires low { 2 ≤ offset }
     requires high { offset < 64 }
     requires at { index < records bytes.now }
@@ -93,7 +96,7 @@ pub(crate) fn copy(bytes: &[u8], index: usize, offset: usize, buffer: &mut [u8])
     ensures last { result ≡ last index (walk (link (mem bytes.now)) (span offset (length buffer.old)) index) }
 {
     let room = RECORD - offset;
-    let from = RECORD * index + offset;
+    let from = RECORD * usize::from(index) + offset;
     if buffer.len() <= room {
         buffer.copy_from_slice(&bytes[from..from + buffer.len()]);
         return index;
@@ -104,36 +107,9 @@ pub(crate) fn copy(bytes: &[u8], index: usize, offset: usize, buffer: &mut [u8])
 }
 
 /// The number of the packet whose first record is given.
-pub(crate) fn number_at(bytes: &[u8], index: usize) -> u64
+pub(crate) fn number_at(bytes: &[u8], index: u16) -> u32
     requires { index < records bytes.now }
-    ensures is { result ≡ number (mem bytes.now) index }
-    ensures small { result < 4294967296 }
+    ensures { result ≡ number (mem bytes.now) index }
 {
-    read(bytes, index, NUMBER) as u64 + WORD as u64 * (read(bytes, index, NUMBER + 2) as u64)
-}
-
-/// The first record of the last packet whose number is below the given one, or 0: a walk from the first packet.
-fn walk_to(bytes: &[u8], number: u64) -> usize
-    requires { Kept bytes.now }
-    ensures { Before bytes.now number result }
-{
-    let mut prev = 0;
-    let mut at = read(bytes, 0, NEXT);
-    while at != 0 && number_at(bytes, at) < number {
-        prev = at;
-        at = read(bytes, at, NEXT);
-    }
-    prev
-}
-
-/// The same, with no walk where the number is above every number held.
-pub(crate) fn seek(bytes: &[u8], number: u64) -> usize
-    requires { Kept bytes.now }
-    ensures { Before bytes.now number result }
-{
-    let last = read(bytes, 0, LAST);
-    if last == 0 || number_at(bytes, last) < number {
-        return last;
-    }
-    walk_to(bytes, number)
+    u32::from(read(bytes, index, NUMBER)) + WORD * u32::from(read(bytes, index, NUMBER + 2))
 }

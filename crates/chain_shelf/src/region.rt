@@ -1,7 +1,12 @@
 //! The memory of a shelf.
-ghost use Rattle.std.specs.Prelude.{◌≡◌, true, is_ok, vec_len, MatchResult};
+ghost use Rattle.std.specs.Prelude.{◌≡◌, true, is_ok, vec_len, MatchResult, Some};
+ghost use Rattle.shelf.specs.Store.{refused_text};
 ghost use Rattle.chain_shelf.specs.Regions.{fit, SizesWorked};
 ghost use Rattle.chain_shelf.specs.Faults.{region_fault_number};
+ghost use Rattle.chain_shelf.specs.declared.region.RegionFault.TheVariants.{Size};
+
+use std::error::Error;
+use std::fmt;
 
 /// The bytes of a record.
 pub(crate) const RECORD: usize = 64;
@@ -13,7 +18,7 @@ const FEWEST: usize = 26;
 const MOST: usize = 65535;
 
 /// Why memory was not taken as a region; it is given back.
-#[derive(Drop)]
+#[derive(Debug, Drop)]
 pub enum RegionFault {
     /// It is not 26 to 65,535 whole records.
     Size(Vec<u8>),
@@ -30,6 +35,17 @@ impl RegionFault {
     }
 }
 
+impl fmt::Display for RegionFault {
+    ghost output = { λ fault. Some (refused_text (region_fault_number fault)) };
+
+    fn fmt<W: fmt::Write>(&self, f: &mut fmt::Formatter<W>) -> fmt::Result {
+        let number = self.number();
+        write!(f, "refused {number}")
+    }
+}
+
+impl Error for RegionFault {}
+
 /// Memory of 26 to 65,535 whole records.
 #[derive(Drop)]
 pub struct Region {
@@ -37,25 +53,32 @@ pub struct Region {
     ghost fits: { fit (vec_len bytes) ≡ true },
 }
 
-impl Region {
-    /// A region, where the memory has the size of one.
-    pub fn check(bytes: Vec<u8>) -> Result<Region, RegionFault>
-        ensures when { is_ok result ≡ fit (vec_len bytes) }
-        ensures same { MatchResult result (λ g. g.bytes ≡ bytes) (λ e. e ≡ RegionFault.Size bytes) }
-        ensures worked { SizesWorked }
-    {
+/// A region, where the memory has the size of one; else the memory is given back.
+impl TryFrom<Vec<u8>> for Region {
+    type Error = RegionFault;
+
+    ghost try_from_gives = { λ bytes r. (is_ok r ≡ fit (vec_len bytes)) × MatchResult r (λ region. region.bytes ≡ bytes) (λ e. e ≡ Size bytes) };
+
+    fn try_from(bytes: Vec<u8>) -> Result<Region, RegionFault> {
         let size = bytes.len();
         if size % RECORD != 0 || size < FEWEST * RECORD || size > MOST * RECORD {
             return Err(RegionFault::Size(bytes));
         }
         Ok(Region { bytes })
     }
+}
 
-    /// The memory, given back.
-    pub fn into_bytes(self) -> Vec<u8>
-        ensures { result ≡ self.bytes }
-    {
-        let Region { bytes } = self;
+/// The memory, given back.
+impl From<Region> for Vec<u8> {
+    ghost from_gives = { λ region bytes. bytes ≡ region.bytes };
+
+    fn from(region: Region) -> Vec<u8> {
+        let Region { bytes } = region;
         bytes
     }
 }
+
+/// The sizes that a region may have, on both sides of each bound. A theorem.
+pub fn region_sizes()
+    ensures { SizesWorked }
+{}

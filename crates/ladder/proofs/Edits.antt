@@ -1,7 +1,7 @@
 -- A row put at its place, or taken from it, among the first rows of a table.
-use Rattle.std.proofs.Common.{◌≡◌, ℕ, ◌+◌, ◌-◌, ◌<◌, ◌≤◌, Bool, true, false, List, [], ◌∷◌, ◌++◌, length, take, drop, set, sym, ap, ◌∙◌, subst, add-one, arith}
+use Rattle.std.proofs.Common.{◌≡◌, ℕ, ◌+◌, ◌-◌, ◌<◌, ◌≤◌, Bool, true, false, List, [], ◌∷◌, ◌++◌, length, take, drop, set, sym, ap, ◌∙◌, add-one, arith}
 use lib.Seq.{paste, length-paste, take-paste, take-set-lt}
-use Rattle.std.proofs.lemmas.List.{length-take, length-take-le, length-set, length-append, length-drop, take-take, take_more_set, drop-drop, set_split, set-append_left, append_assoc}
+use Rattle.std.proofs.lemmas.List.{length-take-le, length-set, length-drop, take-take, take_more_set, drop-drop, set_split, set-append_left, append_assoc}
 use Rattle.std.proofs.lemmas.Slice.{between_is}
 use Rattle.ladder.specs.Ladders.{past, entered, Found, Holds}
 use Rattle.ladder.proofs.Places.{past_held, past_none}
@@ -71,9 +71,3 @@ module _ {X : Type 0} (xs : List X) (used count : ℕ) (le : count ≤ length xs
         let n : length (paste xs (at + 1) (drop at xs) (count - at)) ≡ length xs = length-paste xs (at + 1) (drop at xs) (count - at) (omega arith) (rw (length-drop at xs) (omega arith)) in
         let h = holds (set p at r) (count + 1) (λ zs. take at zs ++ r ∷ drop at zs) (omega (arith, n, length-set p at r)) (edit_new xs count at le r l lt) in
         record { within = h.within; is = h.is ∙ around false _ f (sym (past_none key before (key r) _ f.held)) }
-
-    pub no_room : count ≡ length xs → Found key before (key r) (take used xs) false at → length xs < length (entered key before r (take used xs))
-    no_room e f =
-        let zs = take used xs in
-        subst (λ t. length xs < length t) (around false _ f (sym (past_none key before (key r) _ f.held)))
-        (omega (arith, length-append (take at zs) (r ∷ drop at zs), length-take at zs, length-drop at zs, long, f.within))

@@ -1,9 +1,14 @@
 //! Ladders: rows of any kind that are kept in the order of their keys, in the first places of a lent table.
+//!
+//! Each function takes the table and how many of its rows are used. Kept as two parameters: memory is fixed, so the table is lent and its owner keeps the count;
+//! a struct of a `&mut` slice and a count, made for one call, leaves the checker without the tie between its fields and what was lent.
 #![tactic(auto)]
 
 ghost use Rattle.std.specs.Prelude.{◌≡◌, ◌<◌, ◌≤◌, Bool, true, false, ◌++◌, length, take, drop, MatchResult};
 ghost use Rattle.ladder.specs.Ladders.{place as place_of, entered, removed, Found, Holds, Settled};
 ghost use Rattle.ladder.specs.Laws.{Laws};
+
+use std::marker::PhantomData;
 
 /// A kind of ladder: what its rows are, the key of each row, and which of two keys comes first.
 /// Of two keys exactly one of these holds: the first is before the second, they are equal, the second is before the first.
@@ -31,7 +36,40 @@ pub trait Rank {
     ghost total: { (a b : Self.Key) → before a b ≡ false → before b a ≡ false → a ≡ b };
 }
 
+/// A rank turned round: of two keys the one comes first that `R` puts second.
+#[derive(Drop)]
+pub struct Backwards<R> {
+    rank: PhantomData<R>,
+}
+
+impl<R: Rank> Rank for Backwards<R> {
+    type Row = R::Row;
+
+    type Key = R::Key;
+
+    ghost keyed = { R.keyed };
+
+    ghost before = { λ a b. R.before b a };
+
+    ghost irreflexive = { R.irreflexive };
+
+    ghost transitive = { λ a b c p q. R.transitive c b a q p };
+
+    ghost total = { λ a b p q. R.total a b q p };
+
+    fn key(row: &R::Row) -> R::Key {
+        R::key(row)
+    }
+
+    fn precedes(a: R::Key, b: R::Key) -> bool {
+        R::precedes(b, a)
+    }
+}
+
 // The place of a key among the rows, looked for by halves.
+// Kept as a loop: `partition_point` says where the key belongs only in rows that are in order, and every lent table has its answer here.
+// The proof with it stops at `result ≡ place_of ..`, and in rows out of order it does look at other rows.
+#[tactic(auto, using(crate::proofs::Halves::halved_end, crate::proofs::Halves::look_up, crate::proofs::Halves::look_down, crate::proofs::Places::flag_at))]
 fn place<R: Rank>(rows: &[R::Row], key: R::Key) -> usize
     ensures within { result ≤ length rows.now }
     ensures is { result ≡ place_of R.keyed R.before key rows.now }
@@ -57,28 +95,15 @@ fn counted<T>(rows: &[T], used: usize) -> usize
     used.min(rows.len())
 }
 
-// Whether the row at the place of a key has that key.
-fn holds<R: Rank>(rows: &[R::Row], at: usize, key: R::Key) -> bool
-    requires { (at ≡ place_of R.keyed R.before key rows.now) × (at ≤ length rows.now) }
-    ensures { Found R.keyed R.before key rows.now result at }
-{
-    if at < rows.len() {
-        !R::precedes(key, R::key(&rows[at]))
-    } else {
-        false
-    }
-}
-
 /// Where the row with a key is among the first `used` rows, or else where one would be added.
 pub fn find<R: Rank>(rows: &[R::Row], used: usize, key: R::Key) -> Result<usize, usize>
     ensures { MatchResult result (λ at. Found R.keyed R.before key (take used rows.now) true at) (λ at. Found R.keyed R.before key (take used rows.now) false at) }
 {
-    let count = counted(rows, used);
-    let at = place::<R>(&rows[0..count], key);
-    if holds::<R>(&rows[0..count], at, key) {
-        Ok(at)
-    } else {
-        Err(at)
+    let rows = &rows[..counted(rows, used)];
+    let at = place::<R>(rows, key);
+    match rows.get(at) {
+        Some(row) if !R::precedes(key, R::key(row)) => Ok(at),
+        _ => Err(at),
     }
 }
 
@@ -118,6 +143,7 @@ pub fn enter<R: Rank>(rows: &mut [R::Row], used: usize, row: R::Row) -> Option<u
 }
 
 // Takes a row out, and moves those behind it one place down.
+#[tactic(auto, using(crate::proofs::Edits::takes_out))]
 fn take_out<R: Rank>(rows: &mut [R::Row], used: usize, at: usize) -> usize
     requires { at < length (take used rows.old) }
     ensures { Holds rows.new result (take at (take used rows.old) ++ drop 1 (drop at (take used rows.old))) }
@@ -138,6 +164,7 @@ pub fn remove<R: Rank>(rows: &mut [R::Row], used: usize, key: R::Key) -> usize
 }
 
 /// What holds of a ladder in order, for any rank: a theorem.
+#[tactic(auto, using(crate::proofs::Lookups::laws))]
 pub fn ordered<R: Rank>()
     ensures { Laws R.keyed R.before }
 {}

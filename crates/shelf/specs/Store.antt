@@ -1,5 +1,5 @@
 -- What a shelf means: the packets held by number, a total of units, and a price in units for each length.
-use Rattle.std.specs.Prelude.{ℕ, suc, ◌+◌, ◌^◌, ◌<◌, ◌≤◌, min, max, Bool, true, false, cond, ◌&&◌, List, [], ◌∷◌, ◌++◌, length, drop, Some, None, Ok, Err, Option, Result, ◌==◌, nat_le, nat_lt}
+use Rattle.std.specs.Prelude.{ℕ, suc, ◌+◌, ◌^◌, ◌<◌, ◌≤◌, min, max, Bool, true, false, cond, ◌&&◌, List, [], ◌∷◌, ◌++◌, length, drop, Some, None, Ok, Err, Option, Result, ◌==◌, nat_le, nat_lt, codes, decimal}
 use Rattle.std.specs.Option.{option_map}
 use Rattle.shelf.specs.declared.PutFault.{PutFault}
 use Rattle.shelf.specs.declared.PutFault.TheVariants.{Length, Held, Full}
@@ -15,6 +15,10 @@ put_fault_number Full = 13
 -- the number of each refusal of take
 abbrev pub take_fault_number : TakeFault → ℕ
 take_fault_number Short = 1
+
+-- a refusal as it is printed, by its number
+abbrev pub refused_text : ℕ → List ℕ
+refused_text n = codes "refused " ++ decimal n
 
 -- the packets that are held, each beside its number, numbers rising strictly
 abbrev pub Packets : Type 0

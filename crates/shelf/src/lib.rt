@@ -1,9 +1,12 @@
 //! Shelves: packets that came early, kept by number until their turn.
 #![tactic(auto)]
 
-ghost use Rattle.std.specs.Prelude.{◌≡◌, []};
-ghost use Rattle.shelf.specs.Store.{Store, Lawful, has, above, used, priced, with_held, put_answer, put_after, take_answer, take_buffer, take_after, put_fault_number, take_fault_number};
+ghost use Rattle.std.specs.Prelude.{◌≡◌, [], Some};
+ghost use Rattle.shelf.specs.Store.{Store, Lawful, has, above, used, priced, with_held, put_answer, put_after, take_answer, take_buffer, take_after, put_fault_number, take_fault_number, refused_text};
 ghost use Rattle.shelf.specs.Laws.{HeldIsAMap, QuotasJoin, WidestQuota};
+
+use std::error::Error;
+use std::fmt;
 
 mod quota;
 
@@ -38,6 +41,17 @@ impl PutFault {
     }
 }
 
+impl fmt::Display for PutFault {
+    ghost output = { λ fault. Some (refused_text (put_fault_number fault)) };
+
+    fn fmt<W: fmt::Write>(&self, f: &mut fmt::Formatter<W>) -> fmt::Result {
+        let number = self.number();
+        write!(f, "refused {number}")
+    }
+}
+
+impl Error for PutFault {}
+
 /// Why a packet was not taken from a shelf.
 #[derive(Clone, Copy, PartialEq, Eq, Debug)]
 pub enum TakeFault {
@@ -55,6 +69,16 @@ impl TakeFault {
         }
     }
 }
+
+impl fmt::Display for TakeFault {
+    ghost output = { λ fault. Some (refused_text (take_fault_number fault)) };
+
+    fn fmt<W: fmt::Write>(&self, f: &mut fmt::Formatter<W>) -> fmt::Result {
+        write!(f, "refused {}", self.number())
+    }
+}
+
+impl Error for TakeFault {}
 
 /// A shelf keeps packets that came early, by number. It has a total of units, and each packet costs a price in units by its length.
 pub trait Shelf {
@@ -80,6 +104,7 @@ pub trait Shelf {
         ensures { result ≡ above (means self.now).held number };
 
     /// The price of a length in units, 0 for a length that no packet has.
+    // Kept as a number, not an Option: the rules name the price of every length, and 0 is the price that they give here.
     fn price(&self, length: usize) -> u32
         ensures { result ≡ priced (means self.now) length };
 
@@ -94,12 +119,10 @@ pub trait Shelf {
     ghost lawful: { (s : Self) → Lawful (means s) };
 }
 
-/// What is held is a map: look-ups, the least number above and the units are what a map's would be.
-pub fn held_is_a_map() -> u8
+/// What is held is a map: look-ups, the least number above and the units are what a map's would be. A theorem.
+pub fn held_is_a_map()
     ensures { HeldIsAMap }
-{
-    0
-}
+{}
 
 /// A quota on a quota means one quota with the lesser limit, and a quota with the largest limit means the shelf itself: theorems.
 pub fn quotas_join()

@@ -39,7 +39,7 @@ impl<S: Shelf> Shelf for Quota<S> {
         let cost = self.price(packet.len());
         if cost > 0 && !self.holds(number) {
             let most = self.limit.max(self.price(LONGEST));
-            if self.used() as u64 + cost as u64 > most as u64 {
+            if cost > most.saturating_sub(self.used()) {
                 return Err(PutFault::Full);
             }
         }

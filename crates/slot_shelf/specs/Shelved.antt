@@ -1,50 +1,47 @@
 -- Why sixteen slots keep the law of shelves.
-use Rattle.std.specs.Prelude.{◌≡◌, ℕ, ◌+◌, ◌≤◌, Bool, true, false, cond, ◌&&◌, List, [], ◌∷◌, length, ◌==◌, refl}
+use Rattle.std.specs.Prelude.{◌≡◌, ℕ, ◌+◌, ◌≤◌, true, false, cond, List, [], ◌∷◌, length, Some, None, Option, is_some, ◌==◌, refl}
+use Rattle.std.specs.Option.{option_map_or}
 use Rattle.std.proofs.Common.{arith}
-use Rattle.std.proofs.lemmas.Bool.{cond_both}
 use Rattle.std.proofs.lemmas.Bool.Decides.{nat_tests}
-use Rattle.shelf.specs.Store.{Packets, Lawful, Up, Sized, insert, has, units}
+use Rattle.shelf.specs.Store.{Packets, Lawful, Up, Sized, has, units}
 use Rattle.shelf.proofs.Kept.{has_insert, units_insert, up_insert, sized_insert}
 use Rattle.slot_shelf.specs.declared.slot.Slot.{Slot}
-use Rattle.slot_shelf.specs.Slots.{slots_held, slots_sound, slot_right, slot_store, kept, holds_number}
+use Rattle.slot_shelf.specs.declared.slot.Held.{Held}
+use Rattle.slot_shelf.specs.Slots.{front, adds, sound_beside, slots_held, slots_sound, slot_store, holds_number}
 
--- with a packet more, if there is one
-abbrev pub adds : Bool → ℕ → List ℕ → Packets → Packets
-adds b n p h = cond b (insert n p h) h
-
-pub has_adds : (b : Bool) (n : ℕ) (p : List ℕ) (h : Packets) (k : ℕ) → has (adds b n p h) k ≡ cond (b && k == n) true (has h k)
-has_adds true n p h k = has_insert n p h k
-has_adds false n p h k = refl
+pub has_adds : (bytes : List ℕ) (o : Option Held) (h : Packets) (k : ℕ) → has (adds bytes o h) k ≡ cond (option_map_or (λ x. x.number == k) o false) true (has h k)
+has_adds bytes None h k = refl
+has_adds bytes (Some x) h k = let e = has_insert x.number (front bytes x) h k in grind (arith, nat_tests)
 
 pub has_slot : (s : Slot) (ss : List Slot) (k : ℕ) → has (slots_held (s ∷ ss)) k ≡ cond (holds_number s k) true (has (slots_held ss) k)
-has_slot s ss k = let e = has_adds s.occupied s.number (kept s) (slots_held ss) k in grind (arith, nat_tests)
+has_slot s ss k = has_adds s.bytes s.held (slots_held ss) k
 
-pub units_slot : (s : Slot) (ss : List Slot) → units (λ _. 1) (slots_held (s ∷ ss)) ≡ cond s.occupied 1 0 + units (λ _. 1) (slots_held ss)
-units_slot s ss = go s.occupied
-  where
-    go : (b : Bool) → units (λ _. 1) (adds b s.number (kept s) (slots_held ss)) ≡ cond b 1 0 + units (λ _. 1) (slots_held ss)
-    go true = units_insert (λ _. 1) s.number (kept s) (slots_held ss)
-    go false = omega arith
+pub units_adds : (bytes : List ℕ) (o : Option Held) (h : Packets) → units (λ _. 1) (adds bytes o h) ≡ cond (is_some o) 1 0 + units (λ _. 1) h
+units_adds bytes None h = omega arith
+units_adds bytes (Some x) h = units_insert (λ _. 1) x.number (front bytes x) h
+
+pub units_slot : (s : Slot) (ss : List Slot) → units (λ _. 1) (slots_held (s ∷ ss)) ≡ cond (is_some s.held) 1 0 + units (λ _. 1) (slots_held ss)
+units_slot s ss = units_adds s.bytes s.held (slots_held ss)
 
 -- what soundness says of the first slot
-pub first_sound : (s : Slot) (ss : List Slot) → slots_sound (s ∷ ss) ≡ true → (s.occupied ≡ true → (slot_right s ≡ true) × (has (slots_held ss) s.number ≡ false)) × (slots_sound ss ≡ true)
-first_sound s ss d = (λ o. (grind (arith, nat_tests), grind (arith, nat_tests)), grind (arith, nat_tests))
+pub first_sound : (s : Slot) (ss : List Slot) → slots_sound (s ∷ ss) ≡ true → (sound_beside (slots_held ss) s.bytes s.held ≡ true) × (slots_sound ss ≡ true)
+first_sound s ss d = (grind (arith, nat_tests), grind (arith, nat_tests))
+
+up_adds : (bytes : List ℕ) (o : Option Held) (h : Packets) → sound_beside h bytes o ≡ true → Up 0 h → Up 0 (adds bytes o h)
+up_adds bytes None h d u = u
+up_adds bytes (Some x) h d u = up_insert 0 x.number (front bytes x) h (omega arith) (grind (arith, nat_tests)) u (grind (arith, nat_tests))
 
 pub up_held : (ss : List Slot) → slots_sound ss ≡ true → Up 0 (slots_held ss)
 up_held [] d = tt
-up_held (s ∷ ss) d =
-    let f = first_sound s ss d in
-    cond_both s.occupied (insert s.number (kept s) (slots_held ss)) (slots_held ss) (Up 0)
-    (λ o. let r = (f.0 o).0 in up_insert 0 s.number (kept s) (slots_held ss) (omega arith) (grind (arith, nat_tests)) (up_held ss f.1) (f.0 o).1)
-    (λ _. up_held ss f.1)
+up_held (s ∷ ss) d = let f = first_sound s ss d in up_adds s.bytes s.held (slots_held ss) f.0 (up_held ss f.1)
+
+sized_adds : (bytes : List ℕ) (o : Option Held) (h : Packets) → sound_beside h bytes o ≡ true → Sized h → Sized (adds bytes o h)
+sized_adds bytes None h d z = z
+sized_adds bytes (Some x) h d z = sized_insert x.number (front bytes x) h (grind (arith, nat_tests)) (grind (arith, nat_tests)) z
 
 pub sized_held : (ss : List Slot) → slots_sound ss ≡ true → Sized (slots_held ss)
 sized_held [] d = tt
-sized_held (s ∷ ss) d =
-    let f = first_sound s ss d in
-    cond_both s.occupied (insert s.number (kept s) (slots_held ss)) (slots_held ss) Sized
-    (λ o. let r = (f.0 o).0 in sized_insert s.number (kept s) (slots_held ss) (grind (arith, nat_tests)) (grind (arith, nat_tests)) (sized_held ss f.1))
-    (λ _. sized_held ss f.1)
+sized_held (s ∷ ss) d = let f = first_sound s ss d in sized_adds s.bytes s.held (slots_held ss) f.0 (sized_held ss f.1)
 
 pub units_most : (ss : List Slot) → units (λ _. 1) (slots_held ss) ≤ length ss
 units_most [] = omega arith

@@ -1,31 +1,41 @@
 -- What sixteen slots hold.
-use Rattle.std.specs.Prelude.{◌≡◌, ℕ, ◌^◌, ◌<◌, min, Bool, true, false, cond, not, ◌&&◌, List, [], ◌∷◌, ◌++◌, length, get_or, take, drop, Some, None, Option, ◌==◌, nat_lt, slice_index_or}
+use Rattle.std.specs.Prelude.{◌≡◌, ℕ, ◌^◌, ◌<◌, ◌≤◌, min, Bool, true, false, cond, not, ◌&&◌, List, [], ◌∷◌, ◌++◌, length, get_or, take, drop, Some, None, IsNone, IfSome, Option, ◌==◌, nat_lt, slice_index_or}
+use Rattle.std.specs.Option.{option_map, option_map_or, option_and_then}
 use Rattle.shelf.specs.Store.{Packets, Store, insert, has, right}
 use Rattle.slot_shelf.specs.declared.slot.Slot.{Slot}
+use Rattle.slot_shelf.specs.declared.slot.Held.{Held}
 
 -- what is read past the last slot: no packet
 abbrev pub no_slot : Slot
-no_slot = record { bytes = []; number = 0; len = 0; occupied = false }
+no_slot = record { bytes = []; held = None }
 
--- the packet in a slot: the front of its bytes
-abbrev pub kept : Slot → List ℕ
-kept s = take s.len s.bytes
+-- the bytes of a packet that is held: the front of its slot's
+abbrev pub front : List ℕ → Held → List ℕ
+front bytes h = take h.len bytes
+
+-- the packet in a slot, if there is one
+abbrev pub kept : Slot → Option (List ℕ)
+kept s = option_map (front s.bytes) s.held
+
+-- a packet that is held is no longer than a packet may be
+abbrev pub fits : Slot → Type 0
+fits s = IfSome s.held (λ h. h.len ≤ 1500)
 
 -- a slot with a packet put in
 abbrev pub filled : Slot → ℕ → List ℕ → Slot
-filled s n p = record { bytes = p ++ drop (length p) s.bytes; number = n; len = length p; occupied = true }
+filled s n p = record { bytes = p ++ drop (length p) s.bytes; held = Some (record { number = n; len = length p }) }
 
 -- a slot with its packet let go
 abbrev pub emptied : Slot → Slot
-emptied s = record { bytes = s.bytes; number = s.number; len = s.len; occupied = false }
+emptied s = record { bytes = s.bytes; held = None }
 
 -- whether a slot holds the packet of a number
 abbrev pub holds_number : Slot → ℕ → Bool
-holds_number s k = s.occupied && s.number == k
+holds_number s k = option_map_or (λ h. h.number == k) s.held false
 
 -- the number of a slot's packet, where that is above a given one
 abbrev pub number_above : Slot → ℕ → Option ℕ
-number_above s k = cond (s.occupied && nat_lt k s.number) (Some s.number) None
+number_above s k = option_and_then (λ h. cond (nat_lt k h.number) (Some h.number) None) s.held
 
 -- the lesser of two numbers, of which each may be absent
 abbrev pub lesser : Option ℕ → Option ℕ → Option ℕ
@@ -33,23 +43,33 @@ lesser None o = o
 lesser (Some a) None = Some a
 lesser (Some a) (Some b) = Some (min a b)
 
+-- packets, with the one in a slot's bytes beside them, if there is one
+abbrev pub adds : List ℕ → Option Held → Packets → Packets
+adds bytes None packets = packets
+adds bytes (Some h) packets = insert h.number (front bytes h) packets
+
 -- the packets in a list of slots
 abbrev pub slots_held : List Slot → Packets
 slots_held [] = []
-slots_held (s ∷ ss) = cond s.occupied (insert s.number (kept s) (slots_held ss)) (slots_held ss)
+slots_held (s ∷ ss) = adds s.bytes s.held (slots_held ss)
 
 -- a packet's length and number are right
-abbrev pub slot_right : Slot → Bool
-slot_right s = right s.len && length (kept s) == s.len && nat_lt s.number (2 ^ 32)
+abbrev pub held_right : List ℕ → Held → Bool
+held_right bytes h = right h.len && length (front bytes h) == h.len && nat_lt h.number (2 ^ 32)
+
+-- a slot is free, or its packet is right and its number is not among others
+abbrev pub sound_beside : Packets → List ℕ → Option Held → Bool
+sound_beside others bytes None = true
+sound_beside others bytes (Some h) = held_right bytes h && not (has others h.number)
 
 -- each packet is right, and no number is held twice
 abbrev pub slots_sound : List Slot → Bool
 slots_sound [] = true
-slots_sound (s ∷ ss) = cond s.occupied (slot_right s && not (has (slots_held ss) s.number)) true && slots_sound ss
+slots_sound (s ∷ ss) = sound_beside (slots_held ss) s.bytes s.held && slots_sound ss
 
 -- slot i has no packet
 abbrev pub FreeAt : List Slot → ℕ → Type 0
-FreeAt ss i = (i < length ss) × ((get_or ss i no_slot).occupied ≡ false)
+FreeAt ss i = (i < length ss) × IsNone (get_or ss i no_slot).held
 
 -- slot i holds the packet of a number
 abbrev pub HeldAt : List Slot → ℕ → ℕ → Type 0

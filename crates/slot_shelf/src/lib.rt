@@ -1,9 +1,9 @@
 //! A shelf of sixteen slots, each with room for one packet.
 #![tactic(auto)]
 
-ghost use Rattle.std.specs.Prelude.{◌≡◌, ◌<◌, ◌≤◌, true, false, [], length, is_some, IfSome, nat_lt};
+ghost use Rattle.std.specs.Prelude.{◌≡◌, ◌<◌, ◌≤◌, true, false, [], length, filter, is_some, IfSome, nat_lt};
 ghost use Rattle.shelf.specs.Store.{has, insert, remove, lookup, right, used, with_held, length_of, written};
-ghost use Rattle.slot_shelf.specs.Slots.{slots_held, slots_sound, slot_store, empty_store, lesser, FreeAt, HeldAt};
+ghost use Rattle.slot_shelf.specs.Slots.{slots_held, slots_sound, slot_store, empty_store, FreeAt, HeldAt};
 ghost use Rattle.slot_shelf.specs.Shelved.{slots_lawful};
 
 use shelf::{LONGEST, PutFault, SHORTEST, Shelf, TakeFault};
@@ -22,17 +22,6 @@ pub struct SlotShelf {
     ghost sound: { slots_sound slots.items ≡ true },
 }
 
-// The lesser of two numbers, of which each may be absent.
-fn lesser_of(a: Option<u32>, b: Option<u32>) -> Option<u32>
-    ensures { result ≡ lesser a b }
-{
-    match (a, b) {
-        (Some(x), Some(y)) => Some(x.min(y)),
-        (Some(x), None) => Some(x),
-        (None, _) => b,
-    }
-}
-
 impl SlotShelf {
     /// An empty shelf.
     pub fn new() -> SlotShelf
@@ -40,9 +29,7 @@ impl SlotShelf {
     {
         let slot = Slot {
             bytes: [0; LONGEST],
-            number: 0,
-            len: 0,
-            occupied: false,
+            held: None,
         };
         SlotShelf {
             slots: Table {
@@ -56,12 +43,7 @@ impl SlotShelf {
         ensures room { is_some result ≡ nat_lt (used (slot_store self.now.slots.items)) 16 }
         ensures found { IfSome result (FreeAt self.now.slots.items) }
     {
-        for (i, slot) in self.slots.items.iter().enumerate() {
-            if !slot.occupied {
-                return Some(i);
-            }
-        }
-        None
+        self.slots.items.iter().position(|slot| slot.held.is_none())
     }
 
     // The slot with the packet of a number.
@@ -69,15 +51,19 @@ impl SlotShelf {
         ensures held { is_some result ≡ has (slots_held self.now.slots.items) number }
         ensures found { IfSome result (HeldAt self.now.slots.items number) }
     {
-        for (i, slot) in self.slots.items.iter().enumerate() {
-            if slot.holds(number) {
-                return Some(i);
-            }
-        }
-        None
+        self.slots.items.iter().position(|slot| slot.holds(number))
+    }
+
+    // How many slots hold a packet.
+    fn taken(&self) -> u32
+        ensures { result ≡ length (filter (λ s. is_some s.held) self.now.slots.items) }
+    {
+        let slots = self.slots.items.iter();
+        slots.filter(|slot| slot.held.is_some()).count() as u32
     }
 
     // Puts a packet into a free slot.
+    #[tactic(auto, using(crate::proofs::Shelved::held_filled, crate::proofs::Shelved::sound_filled))]
     fn keep(&mut self, i: usize, number: u32, packet: &[u8])
         requires free { FreeAt self.old.slots.items i }
         requires absent { has (slots_held self.old.slots.items) number ≡ false }
@@ -88,16 +74,15 @@ impl SlotShelf {
     }
 
     // Moves the packet of a number to the front of the buffer, and answers its length.
+    #[tactic(auto, using(crate::proofs::Shelved::fits_at, crate::proofs::Shelved::lookup_at, crate::proofs::Shelved::held_emptied, crate::proofs::Shelved::sound_emptied))]
     fn withdraw(&mut self, number: u32, buffer: &mut [u8]) -> Option<usize>
         requires { 1500 ≤ length buffer.old }
         ensures answer { result ≡ length_of (lookup (slots_held self.old.slots.items) number) }
         ensures buffer { buffer.new ≡ written (lookup (slots_held self.old.slots.items) number) buffer.old }
         ensures after { slots_held self.new.slots.items ≡ remove number (slots_held self.old.slots.items) }
     {
-        match self.place(number) {
-            Some(i) => Some(self.slots.empty_at(i, buffer)),
-            None => None,
-        }
+        let i = self.place(number)?;
+        self.slots.empty_at(i, buffer)
     }
 }
 
@@ -132,11 +117,11 @@ impl Shelf for SlotShelf {
     }
 
     fn least_above(&self, number: u32) -> Option<u32> {
-        let mut least = None;
-        for slot in &self.slots.items {
-            least = lesser_of(least, slot.above(number));
-        }
-        least
+        self.slots
+            .items
+            .iter()
+            .filter_map(|slot| slot.above(number))
+            .min()
     }
 
     fn price(&self, length: usize) -> u32 {
@@ -147,19 +132,15 @@ impl Shelf for SlotShelf {
         }
     }
 
+    #[tactic(auto, using(crate::proofs::Shelved::units_count))]
     fn used(&self) -> u32 {
-        let mut count = 0;
-        for slot in &self.slots.items {
-            if slot.occupied {
-                count += 1;
-            }
-        }
-        count
+        self.taken()
     }
 
+    #[tactic(auto, using(crate::proofs::Shelved::held_none, crate::proofs::Shelved::sound_all))]
     fn clear(&mut self) {
-        for i in 0..SLOTS {
-            self.slots.items[i].occupied = false;
+        for slot in &mut self.slots.items {
+            slot.held = None;
         }
     }
 }

@@ -1,5 +1,5 @@
 -- The list of the points of a part of a packet: it begins with the first point and goes on with the points behind it.
-use Rattle.std.proofs.Common.{◌≡◌, ℕ, zero, suc, ◌+◌, ◌-◌, ◌*◌, ◌/◌, ◌<◌, ◌≤◌, cond, nat_lt, List, [], ◌∷◌, map, length, drop, Some, None, slice_get, refl, sym, ap, ◌∙◌, arith, length-drop, add-one, zero-add, get_or, zero-mul, one-mul, add-mul, inl, inr}
+use Rattle.std.proofs.Common.{◌≡◌, ℕ, suc, ◌+◌, ◌*◌, ◌/◌, ◌<◌, ◌≤◌, cond, nat_lt, List, [], ◌∷◌, map, length, drop, Some, None, slice_get, refl, sym, ap, ◌∙◌, arith, length-drop, add-one, zero-add, get_or, zero-mul, one-mul, add-mul, inl, inr}
 use Rattle.std.proofs.lemmas.Bool.{cases_lt, lt-ltb, le-ltb, cond-true, cond-false}
 use Rattle.std.proofs.lemmas.Option.{slice_get-get_or, slice_get_past}
 use Rattle.std.proofs.Math.Nat.{add-div_right, div-eq_of_lt}

@@ -1,12 +1,22 @@
 -- A source id written over the zeros behind the head of a request.
-use Rattle.std.proofs.Common.{◌≡◌, ℕ, ◌+◌, ◌-◌, ◌*◌, ◌/◌, ◌%◌, ◌^◌, ◌<◌, ◌≤◌, Bool, true, cond, ◌&&◌, leb, List, ◌++◌, length, get_or, take, drop, replicate, sym, refl, ap, ◌∙◌, subst, append_assoc, arith}
+use Rattle.std.proofs.Common.{◌≡◌, ℕ, ◌+◌, ◌-◌, ◌*◌, ◌/◌, ◌%◌, ◌^◌, ◌<◌, ◌≤◌, Bool, true, false, cond, not, eqb, ◌&&◌, ◌||◌, leb, List, [], ◌∷◌, ◌++◌, length, get_or, take, drop, replicate, sym, refl, ap, ◌∙◌, subst, append_assoc, arith}
 use native.Mathlib.Nat.{div-div-eq-div-mul}
 use lib.ListN.{length-replicate}
 use borrow.Rule.Slice.PartMut.{put_mid}
 use Rattle.std.proofs.lemmas.List.{take_at, drop_at, drop-append-le, drop-replicate, get_or_append_left, get_or-append_right, get_or-replicate}
 use Rattle.std.proofs.lemmas.Bool.{le-leb, and_from, cond-true}
 use Rattle.std.proofs.lemmas.Bool.Decides.{nat_tests}
-use Rattle.wire.specs.Request.{source_right, request_head, request, request_after, Requests}
+use Rattle.std.specs.List.{list_any}
+use Rattle.wire.specs.Request.{nonzero, source_right, request_head, request, request_after, Requests}
+
+neither : (x y : Bool) → (not x && not y) ≡ not (x || y)
+neither true y = refl
+neither false y = refl
+
+-- no byte is 0, as the search for one says
+pub nonzero_any : (s : List ℕ) → nonzero s ≡ not (list_any (λ b. eqb b 0) s)
+nonzero_any [] = refl
+nonzero_any (b ∷ bs) = ap (λ (x : Bool). not (eqb b 0) && x) (nonzero_any bs) ∙ neither (eqb b 0) (list_any (λ b. eqb b 0) bs)
 
 padded : (h s x : List ℕ) (n : ℕ) → length h ≡ 24 → n ≤ 20 →
     put_mid 24 n (h ++ (replicate 20 0 ++ x)) s ≡ h ++ (s ++ (replicate (20 - n) 0 ++ x))

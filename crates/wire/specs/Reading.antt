@@ -89,13 +89,23 @@ side b = b == 66 || b == 83
 abbrev pub reason : ℕ → Bool
 reason b = b == 79 || b == 67 || b == 69 || b == 88
 
--- the byte of the points at an offset is a side, and is wrong
-abbrev pub wrong_in_full : List ℕ → ℕ → Bool
-wrong_in_full ps k = k % 12 == 10 && not (side (slice_index ps k))
+-- the byte at an offset of a point of a full update is a side, and is wrong
+abbrev pub wrong_in_price_point : ℕ → ℕ → Bool
+wrong_in_price_point k b = k == 10 && not (side b)
 
--- it is a side or a reason, and is wrong
+-- the byte at an offset of a point of a delta is a side or a reason, and is wrong
+abbrev pub wrong_in_delta_point : ℕ → ℕ → Bool
+wrong_in_delta_point k b = (k == 14 && not (side b)) || (k == 15 && not (reason b))
+
+-- the byte at an offset of the points, each of so many bytes, is wrong in its point
+abbrev pub wrong_in : ℕ → (ℕ → ℕ → Bool) → List ℕ → ℕ → Bool
+wrong_in size wrong ps k = wrong (k % size) (slice_index ps k)
+
+abbrev pub wrong_in_full : List ℕ → ℕ → Bool
+wrong_in_full = wrong_in 12 wrong_in_price_point
+
 abbrev pub wrong_in_delta : List ℕ → ℕ → Bool
-wrong_in_delta ps k = (k % 28 == 14 && not (side (slice_index ps k))) || (k % 28 == 15 && not (reason (slice_index ps k)))
+wrong_in_delta = wrong_in 28 wrong_in_delta_point
 
 -- refused at the first wrong byte of points that begin at an offset, where there is one
 abbrev pub unless : ℕ → Option ℕ → Result Msg ReadFault → Result Msg ReadFault
@@ -135,21 +145,21 @@ unavailable_in b =
 abbrev pub mapping_in : List ℕ → Result Msg ReadFault
 mapping_in b = cond (not (whole b == 30)) (Err (Body 0)) (Ok mapping)
 
+-- an update whose points have so many bytes: its scale is at an offset, the points begin behind the fixed bytes, and a packet has a least length
+abbrev pub update_in : ℕ → ℕ → ℕ → ℕ → (ℕ → ℕ → Bool) → (ℕ → ℕ → List ℕ → Msg) → List ℕ → Result Msg ReadFault
+update_in size scale fixed shortest wrong said b =
+    cond (nat_lt (whole b) shortest || not ((whole b - fixed) % size == 0)) (Err (Body 0))
+    (cond (nat_lt 9 (byte_at b scale)) (Err (Body scale))
+    (unless fixed (first (wrong_in size wrong (from b fixed)) (length (from b fixed)))
+    (Ok (said (u16_at b 18) (byte_at b scale) (from b fixed)))))
+
 -- 46 fixed bytes and any count of points of 12
 abbrev pub full_in : List ℕ → Result Msg ReadFault
-full_in b =
-    cond (nat_lt (whole b) 46 || not ((whole b - 46) % 12 == 0)) (Err (Body 0))
-    (cond (nat_lt 9 (byte_at b 42)) (Err (Body 42))
-    (unless 46 (first (wrong_in_full (from b 46)) (length (from b 46)))
-    (Ok (full (u16_at b 18) (byte_at b 42) (from b 46)))))
+full_in = update_in 12 42 46 46 wrong_in_price_point full
 
 -- 34 fixed bytes and one or more points of 28
 abbrev pub delta_in : List ℕ → Result Msg ReadFault
-delta_in b =
-    cond (nat_lt (whole b) 62 || not ((whole b - 34) % 28 == 0)) (Err (Body 0))
-    (cond (nat_lt 9 (byte_at b 33)) (Err (Body 33))
-    (unless 34 (first (wrong_in_delta (from b 34)) (length (from b 34)))
-    (Ok (delta (u16_at b 18) (byte_at b 33) (from b 34)))))
+delta_in = update_in 28 33 34 62 wrong_in_delta_point delta
 
 abbrev pub body_in : Kind → List ℕ → Result Msg ReadFault
 body_in kind.Reset b = reset_in b

@@ -17,12 +17,3 @@ pub(crate) fn u32_at(bytes: &[u8], at: usize) -> u32
 {
     u32::from_be_bytes([bytes[at], bytes[at + 1], bytes[at + 2], bytes[at + 3]])
 }
-
-// The bytes from an offset on.
-pub(crate) fn tail(bytes: &[u8], at: usize) -> &[u8]
-    requires { at ≤ length bytes.now }
-    ensures value { result.now ≡ drop at bytes.now }
-    ensures len { length result.now ≡ length bytes.now - at }
-{
-    &bytes[at..]
-}

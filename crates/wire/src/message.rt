@@ -3,7 +3,8 @@ ghost use Rattle.std.specs.Prelude.{◌≡◌};
 ghost use Rattle.wire.specs.Reading.{packet_model, class_of};
 
 /// A packet's message. Full and delta hold their points as that part of the packet.
-#[derive(Clone, Copy)]
+// Kept as bytes: a type of right points alone would ask more of those who build a message.
+#[derive(Clone, Copy, PartialEq, Eq, Debug)]
 pub enum Message<'a> {
     /// The next number that the channel will send.
     Reset {
@@ -31,7 +32,8 @@ pub enum Message<'a> {
 }
 
 /// A packet: its number, flag and link flag, and its message.
-#[derive(Clone, Copy)]
+// Kept as numbers: an enum of the flags would ask more of those who build a packet.
+#[derive(Clone, Copy, PartialEq, Eq, Debug)]
 pub struct Packet<'a> {
     pub number: u32,
     pub flag: u8,

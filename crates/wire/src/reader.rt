@@ -1,13 +1,14 @@
 //! The reader: what a packet of 16 to 1,500 bytes says, or why it is refused.
-ghost use Rattle.std.specs.Prelude.{◌≡◌, ℕ, ◌+◌, ◌-◌, ◌%◌, ◌<◌, ◌≤◌, length};
+ghost use Rattle.std.specs.Prelude.{◌≡◌, ℕ, ◌+◌, ◌-◌, ◌%◌, ◌<◌, ◌≤◌, Bool, List, length, slice_index};
+ghost use Rattle.std.proofs.Common.{rules};
 ghost use Rattle.wire.specs.Bytes.{first};
-ghost use Rattle.wire.specs.Reading.{told, told_message, told_header, header_in, kind_from, allowed, side, reason, wrong_in_full, wrong_in_delta, reset_in, unavailable_in, mapping_in, full_in, delta_in, body_in, reading};
+ghost use Rattle.wire.specs.Reading.{Msg, full, delta, model, told, told_message, told_header, header_in, kind_from, allowed, wrong_in_price_point, wrong_in_delta_point, wrong_in, reset_in, unavailable_in, mapping_in, update_in, body_in, reading};
 ghost use Rattle.wire.specs.Laws.{Judged};
 
 use crate::fault::ReadFault;
-use crate::fields::{tail, u16_at, u32_at};
 use crate::message::{Message, Packet};
-use crate::point::{DELTA_POINT, FULL_POINT};
+use crate::point::{DeltaPoint, PricePoint, Reason, Side};
+use crate::points::Point;
 
 const LONGEST: usize = 1500;
 
@@ -18,21 +19,9 @@ const PRODUCT: u8 = 115;
 const LARGEST_SCALE: u8 = 9;
 
 // Lengths and offsets count from the packet's start; the body begins behind the header.
-const RESET: usize = 20;
-
-const UNAVAILABLE: usize = 24;
-
 const MAPPING: usize = 30;
 
 const INDEX: usize = 18;
-
-const DELTA_SCALE: usize = 33;
-
-const DELTA_FIXED: usize = 34;
-
-const FULL_SCALE: usize = 42;
-// The exchange's table has two bytes more before the first point: docs/DECISIONS.md.
-const FULL_FIXED: usize = 46;
 
 // The types that a channel carries.
 #[derive(Clone, Copy)]
@@ -44,64 +33,146 @@ enum Kind {
     Delta,
 }
 
-fn kind_of(code: u16) -> Result<Kind, ReadFault>
-    ensures { result ≡ kind_from code }
-{
-    match code {
-        1 => Ok(Kind::Reset),
-        5 => Ok(Kind::Unavailable),
-        35 => Ok(Kind::Mapping),
-        230 => Ok(Kind::Full),
-        231 => Ok(Kind::Delta),
-        _ => Err(ReadFault::Unknown),
-    }
-}
+impl TryFrom<u16> for Kind {
+    type Error = ReadFault;
 
-fn allows(kind: Kind, flag: u8) -> bool
-    ensures { result ≡ allowed kind flag }
-{
-    match kind {
-        Kind::Full => matches!(flag, 1 | 2 | 5 | 6),
-        _ => matches!(flag, 1 | 2),
-    }
-}
+    ghost try_from_gives = { λ code r. r ≡ kind_from code };
 
-fn is_side(letter: u8) -> bool
-    ensures { result ≡ side letter }
-{
-    matches!(letter, b'B' | b'S')
-}
-
-fn is_reason(letter: u8) -> bool
-    ensures { result ≡ reason letter }
-{
-    matches!(letter, b'O' | b'C' | b'E' | b'X')
-}
-
-// The first byte of the points of a full update that is no side.
-fn wrong_in_full(points: &[u8]) -> Option<usize>
-    requires { length points.now % 12 ≡ 0 }
-    ensures { result ≡ first (wrong_in_full points.now) (length points.now) }
-{
-    for at in (0..points.len()).step_by(FULL_POINT) {
-        if !is_side(points[at + 10]) {
-            return Some(at + 10);
+    fn try_from(code: u16) -> Result<Kind, ReadFault> {
+        match code {
+            1 => Ok(Kind::Reset),
+            5 => Ok(Kind::Unavailable),
+            35 => Ok(Kind::Mapping),
+            230 => Ok(Kind::Full),
+            231 => Ok(Kind::Delta),
+            _ => Err(ReadFault::Unknown),
         }
     }
-    None
 }
 
-// The first byte of the points of a delta that is no side or no reason.
-fn wrong_in_delta(points: &[u8]) -> Option<usize>
-    requires { length points.now % 28 ≡ 0 }
-    ensures { result ≡ first (wrong_in_delta points.now) (length points.now) }
-{
-    for at in (0..points.len()).step_by(DELTA_POINT) {
-        if !is_side(points[at + 14]) {
-            return Some(at + 14);
+impl Kind {
+    // Whether the type may have this flag.
+    fn allows(self, flag: u8) -> bool
+        ensures { result ≡ allowed self flag }
+    {
+        match self {
+            Kind::Full => matches!(flag, 1 | 2 | 5 | 6),
+            _ => matches!(flag, 1 | 2),
         }
-        if !is_reason(points[at + 15]) {
-            return Some(at + 15);
+    }
+}
+
+// What the reader knows of an update by its kind of point.
+trait Update: Point {
+    // The offset of the scale, the bytes before the first point, and the fewest bytes that a packet may have.
+    const SCALE: usize;
+
+    const FIXED: usize;
+
+    const SHORTEST: usize;
+
+    ghost SCALE: { ℕ };
+
+    ghost FIXED: { ℕ };
+
+    ghost SHORTEST: { ℕ };
+
+    // Whether a byte is wrong at an offset of a point.
+    ghost wrong: { ℕ → ℕ → Bool };
+
+    // The message of an index, a scale and the points.
+    ghost said: { ℕ → ℕ → List ℕ → Msg };
+
+    // The offset of a point's first wrong byte.
+    fn wrong_byte(point: &[u8]) -> Option<usize>
+        requires { length point.now ≡ Self.BYTES }
+        ensures { result ≡ first (λ k. wrong k (slice_index point.now k)) Self.BYTES };
+
+    fn message<'a>(index: u16, scale: u8, points: &'a [u8]) -> Message<'a>
+        ensures { model result ≡ said index scale points.now };
+
+    ghost laid: { (16 ≤ SCALE) × (SCALE < FIXED) × (20 ≤ FIXED) × (FIXED ≤ SHORTEST) };
+}
+
+impl Update for PricePoint {
+    const SCALE: usize = 42;
+    // The exchange's table has two bytes more before the first point: docs/DECISIONS.md.
+    const FIXED: usize = 46;
+
+    const SHORTEST: usize = 46;
+
+    ghost SCALE = { 42 };
+
+    ghost FIXED = { 46 };
+
+    ghost SHORTEST = { 46 };
+
+    ghost wrong = { wrong_in_price_point };
+
+    ghost said = { full };
+
+    #[tactic(auto, unfolding(crate::specs::Bytes::first))]
+    fn wrong_byte(point: &[u8]) -> Option<usize> {
+        Side::try_from(point[10]).is_err().then_some(10)
+    }
+
+    fn message<'a>(index: u16, scale: u8, points: &'a [u8]) -> Message<'a> {
+        Message::Full {
+            index,
+            scale,
+            points,
+        }
+    }
+
+    ghost laid = { Prim.search rules };
+}
+
+impl Update for DeltaPoint {
+    const SCALE: usize = 33;
+
+    const FIXED: usize = 34;
+    // One point at least.
+    const SHORTEST: usize = 62;
+
+    ghost SCALE = { 33 };
+
+    ghost FIXED = { 34 };
+
+    ghost SHORTEST = { 62 };
+
+    ghost wrong = { wrong_in_delta_point };
+
+    ghost said = { delta };
+
+    #[tactic(auto, unfolding(crate::specs::Bytes::first))]
+    fn wrong_byte(point: &[u8]) -> Option<usize> {
+        if Side::try_from(point[14]).is_err() {
+            Some(14)
+        } else {
+            Reason::try_from(point[15]).is_err().then_some(15)
+        }
+    }
+
+    fn message<'a>(index: u16, scale: u8, points: &'a [u8]) -> Message<'a> {
+        Message::Delta {
+            index,
+            scale,
+            points,
+        }
+    }
+
+    ghost laid = { Prim.search rules };
+}
+
+// The first byte of the points that is wrong.
+#[tactic(auto, using(crate::proofs::Chunks::none_seen, crate::proofs::Chunks::all_seen))]
+fn first_wrong<P: Update>(points: &[u8]) -> Option<usize>
+    requires { length points.now % P.BYTES ≡ 0 }
+    ensures { result ≡ first (wrong_in P.BYTES P.wrong points.now) (length points.now) }
+{
+    for (i, point) in points.chunks_exact(P::BYTES).enumerate() {
+        if let Some(at) = P::wrong_byte(point) {
+            return Some(i * P::BYTES + at);
         }
     }
     None
@@ -110,10 +181,10 @@ fn wrong_in_delta(points: &[u8]) -> Option<usize>
 fn read_reset<'a>(body: &'a [u8]) -> Result<Message<'a>, ReadFault>
     ensures { told_message result ≡ reset_in body.now }
 {
-    if HEADER + body.len() != RESET {
+    let [n0, n1, n2, n3] = body else {
         return Err(ReadFault::Body { offset: 0 });
-    }
-    let next = u32_at(body, 16 - HEADER);
+    };
+    let next = u32::from_be_bytes([*n0, *n1, *n2, *n3]);
     if next == 0 {
         return Err(ReadFault::Body { offset: 16 });
     }
@@ -123,11 +194,11 @@ fn read_reset<'a>(body: &'a [u8]) -> Result<Message<'a>, ReadFault>
 fn read_unavailable<'a>(body: &'a [u8]) -> Result<Message<'a>, ReadFault>
     ensures { told_message result ≡ unavailable_in body.now }
 {
-    if HEADER + body.len() != UNAVAILABLE {
+    let [b0, b1, b2, b3, e0, e1, e2, e3] = body else {
         return Err(ReadFault::Body { offset: 0 });
-    }
-    let begin = u32_at(body, 16 - HEADER);
-    let end = u32_at(body, 20 - HEADER);
+    };
+    let begin = u32::from_be_bytes([*b0, *b1, *b2, *b3]);
+    let end = u32::from_be_bytes([*e0, *e1, *e2, *e3]);
     if begin == 0 {
         return Err(ReadFault::Body { offset: 16 });
     }
@@ -146,54 +217,26 @@ fn read_mapping<'a>(body: &'a [u8]) -> Result<Message<'a>, ReadFault>
     Ok(Message::Mapping)
 }
 
-fn read_full<'a>(body: &'a [u8]) -> Result<Message<'a>, ReadFault>
-    ensures { told_message result ≡ full_in body.now }
+#[tactic(auto, using(crate::proofs::Firsts::first_within))]
+fn read_update<'a, P: Update>(body: &'a [u8]) -> Result<Message<'a>, ReadFault>
+    ensures { told_message result ≡ update_in P.BYTES P.SCALE P.FIXED P.SHORTEST P.wrong P.said body.now }
 {
     let len = HEADER + body.len();
-    if len < FULL_FIXED || (len - FULL_FIXED) % FULL_POINT != 0 {
+    if len < P::SHORTEST || (len - P::FIXED) % P::BYTES != 0 {
         return Err(ReadFault::Body { offset: 0 });
     }
-    let scale = body[FULL_SCALE - HEADER];
+    let scale = body[P::SCALE - HEADER];
     if scale > LARGEST_SCALE {
-        return Err(ReadFault::Body { offset: FULL_SCALE });
+        return Err(ReadFault::Body { offset: P::SCALE });
     }
-    let points = tail(body, FULL_FIXED - HEADER);
-    if let Some(at) = wrong_in_full(points) {
+    let points = &body[P::FIXED - HEADER..];
+    if let Some(at) = first_wrong::<P>(points) {
         return Err(ReadFault::Body {
-            offset: FULL_FIXED + at,
+            offset: P::FIXED + at,
         });
     }
-    Ok(Message::Full {
-        index: u16_at(body, INDEX - HEADER),
-        scale,
-        points,
-    })
-}
-
-fn read_delta<'a>(body: &'a [u8]) -> Result<Message<'a>, ReadFault>
-    ensures { told_message result ≡ delta_in body.now }
-{
-    let len = HEADER + body.len();
-    if len < DELTA_FIXED + DELTA_POINT || (len - DELTA_FIXED) % DELTA_POINT != 0 {
-        return Err(ReadFault::Body { offset: 0 });
-    }
-    let scale = body[DELTA_SCALE - HEADER];
-    if scale > LARGEST_SCALE {
-        return Err(ReadFault::Body {
-            offset: DELTA_SCALE,
-        });
-    }
-    let points = tail(body, DELTA_FIXED - HEADER);
-    if let Some(at) = wrong_in_delta(points) {
-        return Err(ReadFault::Body {
-            offset: DELTA_FIXED + at,
-        });
-    }
-    Ok(Message::Delta {
-        index: u16_at(body, INDEX - HEADER),
-        scale,
-        points,
-    })
+    let index = u16::from_be_bytes([body[INDEX - HEADER], body[INDEX + 1 - HEADER]]);
+    Ok(P::message(index, scale, points))
 }
 
 fn read_body<'a>(kind: Kind, body: &'a [u8]) -> Result<Message<'a>, ReadFault>
@@ -203,8 +246,8 @@ fn read_body<'a>(kind: Kind, body: &'a [u8]) -> Result<Message<'a>, ReadFault>
         Kind::Reset => read_reset(body),
         Kind::Unavailable => read_unavailable(body),
         Kind::Mapping => read_mapping(body),
-        Kind::Full => read_full(body),
-        Kind::Delta => read_delta(body),
+        Kind::Full => read_update::<PricePoint>(body),
+        Kind::Delta => read_update::<DeltaPoint>(body),
     }
 }
 
@@ -252,8 +295,8 @@ fn read_header<'a>(packet: &'a [u8]) -> Result<Header<'a>, ReadFault>
     if *product != PRODUCT {
         return Err(ReadFault::Product);
     }
-    let kind = kind_of(u16::from_be_bytes([*t0, *t1]))?;
-    if !allows(kind, *flag) {
+    let kind = Kind::try_from(u16::from_be_bytes([*t0, *t1]))?;
+    if !kind.allows(*flag) {
         return Err(ReadFault::Flag);
     }
     let number = u32::from_be_bytes([*n0, *n1, *n2, *n3]);

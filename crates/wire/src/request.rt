@@ -12,18 +12,11 @@ const LONGEST_SOURCE: usize = 20;
 const SOURCE: usize = 24;
 
 /// Whether a source id has 1 to 20 nonzero bytes.
+#[tactic(auto, using(crate::proofs::Requests::nonzero_any))]
 pub fn is_source(source: &[u8]) -> bool
     ensures { result ≡ source_right source.now }
 {
-    if source.is_empty() || source.len() > LONGEST_SOURCE {
-        return false;
-    }
-    for byte in source {
-        if *byte == 0 {
-            return false;
-        }
-    }
-    true
+    (1..=LONGEST_SOURCE).contains(&source.len()) && !source.contains(&0)
 }
 
 // What stands before the source id: MsgSize, type 20, number 0, time, product, flag 1, one entry, link flag 0, begin and end.

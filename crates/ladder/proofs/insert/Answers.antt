@@ -1,10 +1,7 @@
-use Rattle.std.proofs.Common.{◌+◌, take, set, sym, refl, subst, arith}
+use Rattle.std.proofs.Common.{◌+◌, take, set, sym, subst, arith}
 use Rattle.ladder.specs.Ladders.{Holds, entered}
-use Rattle.ladder.proofs.Edits.{inserts, no_room}
+use Rattle.ladder.proofs.Edits.{inserts}
 use Rattle.ladder.proofs.insert.Goals as goal
-
-pub returns-then-count-rows : goal.returns-then-count-rows
-returns-then-count-rows g c = (no_room c.args.rows.now c.args.used c.counted-count.result c.counted-count.ensures.within c.counted-count.ensures.same g.R.Rank.keyed g.R.Rank.before c.args.row c.args.at c.if-count-rows.true c.requires, refl)
 
 pub returns : goal.returns
 returns g c =

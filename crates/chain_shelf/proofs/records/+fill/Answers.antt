@@ -14,7 +14,7 @@ fill-requires t c =
     let n : length P ≡ length p - (64 - o) = ap length (take_rest p (64 - o)) ∙ length-drop (64 - o) p in
     let m = mem c.args.bytes.now in
     let v = mem c.lay_in-2.new.bytes in
-    let w = walk_more m v v r o (length p) (length P) a p (omega arith) (omega arith) (omega arith) n c.read-after.ensures.is c.requires.apart (λ s q i h. c.lay_in-2.ensures.others s q i (λ e j _. h e j)) in
+    let w = walk_more m v v r o (length p) (length P) a p (omega arith) (omega arith) (omega arith) n c.read-after.ensures c.requires.apart (λ s q i h. c.lay_in-2.ensures.others s q i (λ e j _. h e j)) in
     let i = inside_rest (records c.args.bytes.now) r (walk (link v) (span 2 (length P)) a) (subst (Inside (records c.args.bytes.now)) w c.requires.inside) in
     let u = apart_rest r (walk (link v) (span 2 (length P)) a) (subst Apart w c.requires.apart) in
     let z : records c.lay_in-2.new.bytes ≡ records c.args.bytes.now = ap (λ k. k / 64) c.lay_in-2.auto.bytes in
@@ -38,8 +38,8 @@ returns t c =
     let h : length S ≡ 64 - o = ap length k ∙ length-take-le (64 - o) p (omega arith) in
     let d : cut v r o (64 - o) ≡ take (64 - o) p = sym (ap (cut v r o) h) ∙ c.lay_in-2.ensures.there ∙ k in
     record {
-      laid = fill_data m v w r o (length p) (length P) a p (omega arith) (omega arith) (omega arith) n c.read-after.ensures.is c.requires.apart f c.fill.ensures.others d (c.fill.ensures.laid ∙ take_rest p (64 - o));
-      last = c.fill.ensures.last ∙ sym (ap (last r) (walk_more m v w r o (length p) (length P) a p (omega arith) (omega arith) (omega arith) n c.read-after.ensures.is c.requires.apart f));
+      laid = fill_data m v w r o (length p) (length P) a p (omega arith) (omega arith) (omega arith) n c.read-after.ensures c.requires.apart f c.fill.ensures.others d (c.fill.ensures.laid ∙ take_rest p (64 - o));
+      last = c.fill.ensures.last ∙ sym (ap (last r) (walk_more m v w r o (length p) (length P) a p (omega arith) (omega arith) (omega arith) n c.read-after.ensures c.requires.apart f));
       within = let z = c.fill.ensures.within in let y = c.lay_in-2.auto.bytes in omega arith;
-      others = fill_others m v w r o (length p) (length P) a p (omega arith) (omega arith) (omega arith) n c.read-after.ensures.is c.requires.apart f c.fill.ensures.others;
+      others = fill_others m v w r o (length p) (length P) a p (omega arith) (omega arith) (omega arith) n c.read-after.ensures c.requires.apart f c.fill.ensures.others;
     }

@@ -1,6 +1,6 @@
 use Rattle.std.proofs.Common.{◌^◌, ◌<◌, length, get_or, ap, ◌∙◌, length-set, rules}
-use Rattle.slot_shelf.specs.Slots.{slots_held, slots_sound, no_slot}
-use Rattle.slot_shelf.proofs.Shelved.{held_filled, sound_filled}
+use Rattle.slot_shelf.specs.Slots.{slots_sound, no_slot}
+use Rattle.slot_shelf.proofs.Shelved.{sound_filled}
 use Rattle.slot_shelf.proofs.SlotShelf.keep.Goals as goal
 
 pub invariant_of-self : goal.invariant_of-self
@@ -15,10 +15,3 @@ invariant_of-self c =
           ap slots_sound c.fill_at.ensures
           ∙ sound_filled ss i k c.args.packet.now (get_or ss i no_slot) c.requires.free.0 c.requires.free.1 c.requires.absent c.requires.sized w c.args.self.now.sound;
     }
-
-pub returns : goal.returns
-returns c =
-    let ss = c.args.self.now.slots.items in
-    let i = c.args.i in
-    ap slots_held c.fill_at.ensures
-    ∙ held_filled ss i c.args.number c.args.packet.now (get_or ss i no_slot) c.requires.free.0 c.requires.free.1 c.requires.absent

@@ -1,19 +1,14 @@
-use Rattle.std.proofs.Common.{◌≡◌, ◌<◌, true, length, get_or, sym, arith}
-use Rattle.slot_shelf.specs.Slots.{holds_number, no_slot}
-use Rattle.slot_shelf.proofs.Shelved.{has_none, has_some}
+use Rattle.std.proofs.Common.{◌≡◌, position, is_some, ap, ◌∙◌, rules, tests}
+use Rattle.std.proofs.lemmas.Iterator.{YieldsList-from_slice}
+use Rattle.std.proofs.lemmas.Iterator.Search.{position_from_yields_List}
+use Rattle.slot_shelf.specs.Slots.{holds_number}
+use Rattle.slot_shelf.proofs.Shelved.{place_found}
 use Rattle.slot_shelf.proofs.SlotShelf.place.Goals as goal
 
-pub returns-then-holds : goal.returns-then-holds
-returns-then-holds c =
+pub returns-clause-held : goal.returns-clause-held
+returns-clause-held c =
     let ss = c.args.self.now.slots.items in
-    let i = c.loop-i.i in
-    let n : length ss ≡ 16 = c.args.self.now.sixteen in
-    let l : i < length ss = omega arith in
-    let h : holds_number (get_or ss i no_slot) c.args.number ≡ true = sym c.if-holds.ensures in
-    record { held = sym (has_some ss c.args.number i l h); found = (l, h) }
-
-pub returns : goal.returns
-returns c =
-    let ss = c.args.self.now.slots.items in
-    let n : length ss ≡ 16 = c.args.self.now.sixteen in
-    record { held = sym (has_none ss c.args.number (λ k l. c.loop-i.invariant k (omega arith))); found = tt }
+    let k = c.args.number in
+    let e : c.position.result ≡ position (λ s. holds_number s k) ss =
+    position_from_yields_List (λ s. holds_number s k) _ _ c.position.result c.position.ensures.ran (YieldsList-from_slice ss cc) (λ x b q h. search (rules, tests)) in
+    ap is_some e ∙ place_found ss k

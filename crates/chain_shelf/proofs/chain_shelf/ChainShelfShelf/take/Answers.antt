@@ -1,7 +1,6 @@
-use Rattle.std.proofs.Common.{◌≡◌, false, length, drop, Some, None, vec_items, sym, refl, ap, ◌∙◌, subst, arith}
-use Rattle.std.proofs.lemmas.List.{take_at}
-use Rattle.chain_shelf.specs.Chain.{Kept, store, held}
-use Rattle.shelf.specs.Store.{remove, has, lookup, length_of, written}
+use Rattle.std.proofs.Common.{◌≡◌, false, None, vec_items, sym, refl, ap, ◌∙◌, arith}
+use Rattle.chain_shelf.specs.Chain.{held}
+use Rattle.shelf.specs.Store.{has, length_of, written}
 use Rattle.shelf.proofs.Kept.{lookup_none, remove_none}
 use Rattle.chain_shelf.proofs.Stores.{take_ok, take_wrote, take_done}
 use Rattle.chain_shelf.proofs.chain_shelf.ChainShelfShelf.take.Goals as goal
@@ -11,31 +10,10 @@ returns-then-not-stands_behind c =
     let b = vec_items c.args.self.now.region in
     let k = c.args.number in
     let B = c.args.buffer.now in
-    let a : has (held b) k ≡ false = sym (c.stands_behind.ensures ∙ ap (λ t. has (held t) k) c.deref-2.ensures.value) ∙ c.if-not-stands_behind.true in
+    let a : has (held b) k ≡ false = sym c.stands_behind.ensures ∙ c.if-not-stands_behind.true in
     let n = lookup_none (held b) k a in
     record {
       answer = take_ok b k B None (omega arith) (sym (ap length_of n));
       buffer = take_wrote b k B B (omega arith) (sym (ap (λ o. written o B) n));
       after = take_done b b k B (omega arith) (sym (remove_none (held b) k a)) refl;
-    }
-
-pub invariant_of-self : goal.invariant_of-self
-invariant_of-self c =
-    let w = c.take_behind.new.bytes in
-    let v = c.args.self.now.region in
-    record { kept = subst Kept (sym (take_at w (drop (length w) v.items) v.len (c.take_behind.auto.bytes ∙ c.deref_mut.ensures.len))) c.take_behind.ensures.kept }
-
-pub returns : goal.returns
-returns c =
-    let w = c.take_behind.new.bytes in
-    let v = c.args.self.now.region in
-    let b = vec_items v in
-    let k = c.args.number in
-    let B = c.args.buffer.now in
-    let x = c.deref_mut.ensures.value in
-    let n = c.take_behind.auto.bytes ∙ ap length x in
-    record {
-      answer = take_ok b k B (Some c.take_behind.result) (omega arith) (c.take_behind.ensures.size ∙ ap (λ t. length_of (lookup (held t) k)) x);
-      buffer = take_wrote b k B c.take_behind.new.buffer (omega arith) (c.take_behind.ensures.buffer ∙ ap (λ t. written (lookup (held t) k) B) x);
-      after = ap store (take_at w (drop (length w) v.items) v.len (c.take_behind.auto.bytes ∙ c.deref_mut.ensures.len)) ∙ take_done b w k B (omega arith) (c.take_behind.ensures.held ∙ ap (λ t. remove k (held t)) x) n;
     }
