@@ -1,4 +1,5 @@
 pub mod Faults
+pub mod Texts
 pub mod Words
 pub mod Flows
 pub mod Offers

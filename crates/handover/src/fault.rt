@@ -1,6 +1,10 @@
 //! Why a call of a channel is refused.
-ghost use Rattle.std.specs.Prelude.{◌≡◌};
+ghost use Rattle.std.specs.Prelude.{◌≡◌, Some};
 ghost use Rattle.handover.specs.Faults.{channel_fault, offer_fault_number};
+ghost use Rattle.handover.specs.Texts.{call_fault_text, offer_fault_text};
+
+use std::error::Error;
+use std::fmt;
 
 use shelf::PutFault;
 use wire::ReadFault;
@@ -62,8 +66,19 @@ impl ChannelFault {
     }
 }
 
+impl fmt::Display for ChannelFault {
+    ghost output = { λ fault. Some (call_fault_text fault) };
+
+    fn fmt<W: fmt::Write>(&self, f: &mut fmt::Formatter<W>) -> fmt::Result {
+        let (number, _next) = self.number();
+        write!(f, "refused {number}")
+    }
+}
+
+impl Error for ChannelFault {}
+
 /// Why an offer is refused: by the reader, the shelf or the channel, with the fault of each whole.
-#[derive(Clone, Copy)]
+#[derive(Clone, Copy, PartialEq, Eq, Debug)]
 pub enum OfferFault {
     Reader(ReadFault),
     Shelf(PutFault),
@@ -82,3 +97,20 @@ impl OfferFault {
         }
     }
 }
+
+impl fmt::Display for OfferFault {
+    ghost output = { λ fault. Some (offer_fault_text fault) };
+
+    fn fmt<W: fmt::Write>(&self, f: &mut fmt::Formatter<W>) -> fmt::Result {
+        match self {
+            OfferFault::Reader(fault) => write!(f, "{fault}"),
+            OfferFault::Shelf(fault) => write!(f, "{fault} by shelf"),
+            OfferFault::Channel(fault) => match fault.number() {
+                (_number, Some(next)) => write!(f, "{fault} by channel next={next}"),
+                (_number, None) => write!(f, "{fault} by channel"),
+            },
+        }
+    }
+}
+
+impl Error for OfferFault {}
