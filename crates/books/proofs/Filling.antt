@@ -1,40 +1,87 @@
--- The points of a message, one after another.
-use Rattle.std.proofs.Common.{◌≡◌, ℕ, ◌+◌, ◌*◌, ◌/◌, ◌<◌, ◌≤◌, true, false, List, [], ◌∷◌, length, get_or, drop, Some, sym, refl, ap, ◌∙◌, arith}
-use Rattle.std.proofs.lemmas.List.{drop_more, drop_all}
-use Rattle.std.proofs.lemmas.Bool.{lt-ltb}
-use Rattle.std.proofs.lemmas.List.FromFn.{length-map-range_with_len, get_or-map-range_with_len}
-use Rattle.wire.specs.Points.{full_at, delta_at}
+-- The points of a message, one after another, told to the book at i.
+use Rattle.std.proofs.Common.{◌≡◌, ℕ, suc, ◌<◌, true, false, List, [], ◌∷◌, length, get_or, map, set, sym, refl, ap, ◌∙◌, arith}
+use Rattle.std.proofs.lemmas.List.{set-set, set-get_or, get_or-set_same, length-set}
 use Rattle.books.specs.declared.level.Point.{Point}
-use Rattle.books.specs.declared.book.Points.{Points}
-use Rattle.books.specs.declared.book.Points.TheVariants as points
-use Rattle.books.specs.Levels.{named}
-use Rattle.books.specs.Entering.{Known, limited, filled, points_of, point_at}
+use Rattle.books.specs.declared.tables.Tables.{Tables}
+use Rattle.books.specs.Entering.{Known, known, unknown, limited, filled, taken, begun, told, points_of, full_points, delta_points}
+use Rattle.books.specs.Keepers.{keeper_means, at_book, tabled, tables_known, changed_at, blank, Spot}
+use Rattle.std.proofs.lemmas.Bool.{cond-true, cond-false}
+use Rattle.wire.specs.Points.{points, full_at, delta_at}
+use Rattle.books.specs.declared.level.Level.{Level}
+use Rattle.books.specs.declared.book.Book.{Book}
+use Rattle.books.specs.declared.book.Start.{Start}
+use Rattle.books.proofs.Rows.{rooms, book_is, row_put}
 
--- the point at an index is the one in the list
-pub point_is : (ps : Points) (i : ℕ) (z : Point) → i < length (points_of ps) → point_at ps i ≡ Some (get_or (points_of ps) i z)
-point_is (points.Full s bs) i z h =
-    let f : ℕ → Point = λ i. named s (full_at bs.now (i * 12)) in
-    let n = length bs.now / 12 in
-    let l : i < n = omega (arith, h, length-map-range_with_len f 0 n) in
-    rw (lt-ltb i n l) (ap (λ p. Some p) (sym (get_or-map-range_with_len f 0 n i i z l (omega arith))))
-point_is (points.Delta s bs) i z h =
-    let f : ℕ → Point = λ i. named s (delta_at bs.now (i * 28)).level in
-    let n = length bs.now / 28 in
-    let l : i < n = omega (arith, h, length-map-range_with_len f 0 n) in
-    rw (lt-ltb i n l) (ap (λ p. Some p) (sym (get_or-map-range_with_len f 0 n i i z l (omega arith))))
+-- points do nothing to a book that is not whole
+not_whole : (d : ℕ) (ps : List Point) (b : Known) → b.whole ≡ false → filled d ps b ≡ b
+not_whole d [] b e = refl
+not_whole d (p ∷ ps) b e = rw e refl
 
-module _ (d : ℕ) where
-  -- points do nothing to a book that is not whole
-  pub not_whole : (ps : List Point) (b : Known) → b.whole ≡ false → filled d ps b ≡ b
-  not_whole [] b e = refl
-  not_whole (p ∷ ps) b e = rw e refl
+-- a change that leaves the book at i as it is
+kept : (ks : List Known) (i : ℕ) (f : Known → Known) → f (get_or ks i unknown) ≡ get_or ks i unknown → changed_at (suc i) f ks ≡ ks
+kept ks i f e = ap (set ks i) e ∙ set-get_or ks i unknown
 
-  pub ends : (ps : List Point) (j : ℕ) (b : Known) → length ps ≤ j → filled d (drop j ps) b ≡ b
-  ends ps j b l = ap (λ qs. filled d qs b) (drop_all j ps l)
+-- a place among the books stays one
+pub among : (t u : Tables) (i : ℕ) (a b : Known) → set (tables_known t) i a ≡ set (tables_known u) i b → i < length u.books.now → i < length t.books.now
+among t u i a b e h = omega (arith, h, rooms t, rooms u, length-set (tables_known t) i a, length-set (tables_known u) i b, ap length e)
 
-  pub goes_on : (ps : List Point) (j : ℕ) (p : Point) (b c : Known) → j < length ps → b.whole ≡ true → c ≡ limited d (get_or ps j p).side (get_or ps j p).level b → filled d (drop (j + 1) ps) c ≡ filled d (drop j ps) b
-  goes_on ps j p b c l t e =
-      let rest = drop (j + 1) ps in
-      let q = get_or ps j p in
-      let one : filled d (q ∷ rest) b ≡ filled d rest (limited d q.side q.level b) = rw t refl in
-      ap (filled d rest) e ∙ sym (ap (λ qs. filled d qs b) (drop_more ps j p l) ∙ one)
+module _ (t : Tables) (i : ℕ) (h : i < length t.books.now) where
+  pub stops : (ps : List Point) → (get_or t.books.now i blank).whole ≡ false → changed_at (suc i) (filled t.depth ps) (tables_known t) ≡ tables_known t
+  stops ps e = kept (tables_known t) i (filled t.depth ps) (not_whole t.depth ps _ (ap (λ b. b.whole) (book_is t i h blank) ∙ e))
+
+  pub ends : changed_at (suc i) (filled t.depth []) (tables_known t) ≡ tables_known t
+  ends = kept (tables_known t) i (filled t.depth []) refl
+
+  pub goes_on : (u : Tables) (p : Point) (ps : List Point) → (get_or t.books.now i blank).whole ≡ true → tables_known u ≡ changed_at (suc i) (limited t.depth p.side p.level) (tables_known t)
+      → changed_at (suc i) (filled t.depth ps) (tables_known u) ≡ changed_at (suc i) (filled t.depth (p ∷ ps)) (tables_known t)
+  goes_on u p ps w e =
+      let ks = tables_known t in
+      let k = get_or ks i unknown in
+      let next = limited t.depth p.side p.level k in
+      let whole : k.whole ≡ true = ap (λ b. b.whole) (book_is t i h blank) ∙ w in
+      let lt : i < length ks = omega (arith, h, rooms t) in
+      ap (changed_at (suc i) (filled t.depth ps)) e
+      ∙ set-set ks i next _
+      ∙ ap (set ks i) (ap (filled t.depth ps) (get_or-set_same ks i next unknown lt) ∙ sym (rw whole refl))
+
+-- a message to the book with the number n, which is at i, with its row as it was
+module _ (t : Tables) (n i : ℕ) (spot : Spot t n i) (s : Start) (ps : List Point) where
+  lt : i < length t.books.now
+  lt = spot.in_books
+
+  to : (f : Known → Known) → changed_at n f (tables_known t) ≡ changed_at (suc i) f (tables_known t)
+  to f = ap (λ n. changed_at n f (tables_known t)) spot.next
+
+  pub untaken : ((xs ys : List Level) → taken s (known (get_or t.books.now i blank) xs ys) ≡ false) → tables_known t ≡ changed_at n (told t.depth s ps) (tables_known t)
+  untaken e = sym (to (told t.depth s ps) ∙ kept (tables_known t) i (told t.depth s ps) (cond-false _ _ _ (ap (taken s) (book_is t i lt blank) ∙ e _ _)))
+
+  pub tells : (b : Book) → ((xs ys : List Level) → (taken s (known (get_or t.books.now i blank) xs ys) ≡ true) × (known b xs ys ≡ begun s (known (get_or t.books.now i blank) xs ys)))
+      → changed_at (suc i) (filled t.depth ps) (tabled t.depth (set t.books.now i b) t.buys.now t.sells.now) ≡ changed_at n (told t.depth s ps) (tables_known t)
+  tells b e =
+      let ks = tables_known t in
+      let k = get_or ks i unknown in
+      let taken : taken s k ≡ true = ap (taken s) (book_is t i lt blank) ∙ (e _ _).0 in
+      ap (changed_at (suc i) (filled t.depth ps)) (row_put t i lt b blank (begun s) (λ xs ys. (e xs ys).1))
+      ∙ set-set ks i (begun s k) _
+      ∙ ap (set ks i) (ap (filled t.depth ps) (get_or-set_same ks i (begun s k) unknown spot.among) ∙ sym (cond-true _ _ _ taken))
+      ∙ sym (to (told t.depth s ps))
+
+map_map : {X Y Z : Type 0} (g : Y → Z) (f : X → Y) (xs : List X) → map g (map f xs) ≡ map (λ x. g (f x)) xs
+map_map g f [] = refl
+map_map g f (x ∷ xs) = ap (λ t. g (f x) ∷ t) (map_map g f xs)
+
+-- the points that are told are those of the bytes
+pub full_is : (s : ℕ) (bs : List ℕ) → points_of (λ p. p) s (points 12 full_at bs) ≡ full_points s bs
+unfolding points
+full_is s bs = map_map _ _ _
+
+pub delta_is : (s : ℕ) (bs : List ℕ) → points_of (λ p. p.level) s (points 28 delta_at bs) ≡ delta_points s bs
+unfolding points
+delta_is s bs = map_map _ _ _
+
+-- what a keeper is after its tables were told
+pub heard : (t u : Tables) (m i : ℕ) (f : Known → Known) → u.depth ≡ t.depth → tables_known u ≡ changed_at i f (tables_known t)
+    → keeper_means (record { tables = u; mark = m }) ≡ at_book i f (keeper_means (record { tables = t; mark = m }))
+heard t u m i f e h =
+    ap (λ d. record { depth = d; mark = m; books = tables_known u }) e
+    ∙ ap (λ bs. record { depth = t.depth; mark = m; books = bs }) h

@@ -2,3 +2,4 @@ pub mod Parts
 pub mod Rows
 pub mod Filling
 pub mod Orders
+pub mod Limits

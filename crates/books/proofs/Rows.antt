@@ -1,13 +1,17 @@
 -- A book among the others.
-use Rattle.std.proofs.Common.{◌≡◌, ℕ, zero, suc, ◌+◌, ◌-◌, ◌*◌, ◌/◌, ◌<◌, ◌≤◌, min, List, [], ◌∷◌, length, get_or, take, drop, set, replicate, Some, sym, refl, ap, ◌∙◌, div-lt_iff_lt-mul, le-div_iff_mul-le, div-mul-le_self, arith, rules}
-use native.Mathlib.Nat.{div-zero}
+use Rattle.std.proofs.Common.{◌≡◌, ℕ, zero, suc, ◌+◌, ◌-◌, ◌*◌, ◌/◌, ◌<◌, ◌≤◌, min, List, [], ◌∷◌, length, get_or, take, drop, set, replicate, Some, true, false, ltb, sym, refl, ap, ◌∙◌, le-div_iff_mul-le, div-mul-le_self, arith, rules}
 use borrow.Rule.Slice.PartMut.{put_mid}
 use Rattle.std.proofs.lemmas.Option.{slice_get-get_or, slice_get_past}
-use Rattle.std.proofs.lemmas.List.{same_lists, places, set_past, length-take, length-take-le, length-drop}
+use Rattle.std.proofs.lemmas.List.{same_lists, places, set_past, set-get_or, length-take, length-take-le, length-drop}
 use Rattle.books.specs.declared.level.Level.{Level}
 use Rattle.books.specs.declared.book.Book.{Book}
 use Rattle.books.specs.Entering.{Known, known, unknown}
-use Rattle.books.specs.Keepers.{cut, each_known, tabled, changed_at, book_of, shown, blank, Spot, Nowhere}
+use Rattle.books.specs.declared.tables.Tables.{Tables}
+use Rattle.std.specs.Prelude.{MatchOption}
+use Rattle.std.specs.Bool.{then_some}
+use Rattle.std.proofs.lemmas.Bool.{ltb-true, ltb-false}
+use Rattle.books.specs.Sizes.{tables_fit}
+use Rattle.books.specs.Keepers.{cut, each_known, tabled, tables_known, changed_at, book_of, shown, blank, Spot, Nowhere}
 use Rattle.books.proofs.Parts.{part_end, length_parts, parts_get, cut_put}
 
 length_known : (bs : List Book) (xs : List (List Level)) (ys : List (List Level)) → length (each_known bs xs ys) ≡ min (min (length bs) (length xs)) (length ys)
@@ -46,22 +50,6 @@ module _ (d : ℕ) (bs : List Book) (xs : List Level) (ys : List Level) where
   pub room_is : length (tabled d bs xs ys) ≡ min (min (length bs) (length xs / d)) (length ys / d)
   room_is = length_known bs (cut d xs) (cut d ys) ∙ omega (arith, length_parts d (length xs / d) xs, length_parts d (length ys / d) ys)
 
-  pub room_none : d ≡ 0 → 0 ≡ length (tabled d bs xs ys)
-  room_none e = omega (arith, room_is, ap (λ d. length xs / d) e ∙ div-zero (length xs))
-
-  -- the test of `spot`, with no division
-  module _ (n : ℕ) (pos : d ≡ 0 → ⊥) where
-    pub n_there : (n ≡ 0 → ⊥) → n - 1 < length bs → n * d ≤ length xs → n * d ≤ length ys → n - 1 < length (tabled d bs xs ys)
-    n_there ne b x y =
-        let p : 0 < d = omega arith in
-        omega (arith, room_is, (le-div_iff_mul-le {k = d} {x = n} {y = length xs} p).1 x, (le-div_iff_mul-le {k = d} {x = n} {y = length ys} p).1 y)
-
-    pub n_past_buys : length xs < n * d → length (tabled d bs xs ys) ≤ n - 1
-    n_past_buys x = let p : 0 < d = omega arith in omega (arith, room_is, (div-lt_iff_lt-mul {k = d} {x = length xs} {y = n} p).1 x)
-
-    pub n_past_sells : length ys < n * d → length (tabled d bs xs ys) ≤ n - 1
-    n_past_sells y = let p : 0 < d = omega arith in omega (arith, room_is, (div-lt_iff_lt-mul {k = d} {x = length ys} {y = n} p).1 y)
-
   module _ (i : ℕ) (h : i < length (tabled d bs xs ys)) where
     pub in_books : i < length bs
     in_books = omega (arith, room_is)
@@ -84,11 +72,29 @@ module _ (d : ℕ) (bs : List Book) (xs : List Level) (ys : List Level) where
         ∙ ap (λ x. known (get_or bs i z) x (get_or (cut d ys) i [])) (parts_get d (length xs / d) i xs in_buys)
         ∙ ap (λ y. known (get_or bs i z) (take d (drop (i * d) xs)) y) (parts_get d (length ys / d) i ys in_sells)
 
-    pub put_known : (b : Book) (w : ℕ) (xs' : List Level) (ys' : List Level) → w ≡ d → length xs' ≡ d → length ys' ≡ d → tabled d (set bs i b) (put_mid (i * d) w xs xs') (put_mid (i * d) w ys ys') ≡ set (tabled d bs xs ys) i (known b xs' ys')
-    put_known b w xs' ys' wide ex ey =
-        ap (λ c. each_known (set bs i b) c (cut d (put_mid (i * d) w ys ys'))) (cut_put d i w xs xs' wide in_buys ex)
-        ∙ ap (λ c. each_known (set bs i b) (set (cut d xs) i xs') c) (cut_put d i w ys ys' wide in_sells ey)
-        ∙ known_set bs (cut d xs) (cut d ys) i b xs' ys'
+    -- the rows of the book as they are, put in their place
+    same_buys : cut d xs ≡ set (cut d xs) i (take d (drop (i * d) xs))
+    same_buys = sym (set-get_or (cut d xs) i []) ∙ ap (set (cut d xs) i) (parts_get d (length xs / d) i xs in_buys)
+
+    same_sells : cut d ys ≡ set (cut d ys) i (take d (drop (i * d) ys))
+    same_sells = sym (set-get_or (cut d ys) i []) ∙ ap (set (cut d ys) i) (parts_get d (length ys / d) i ys in_sells)
+
+    put_known : (b : Book) (us vs : List (List Level)) (u v : List Level) → us ≡ set (cut d xs) i u → vs ≡ set (cut d ys) i v → each_known (set bs i b) us vs ≡ set (tabled d bs xs ys) i (known b u v)
+    put_known b us vs u v ex ey =
+        ap (λ c. each_known (set bs i b) c vs) ex
+        ∙ ap (λ c. each_known (set bs i b) (set (cut d xs) i u) c) ey
+        ∙ known_set bs (cut d xs) (cut d ys) i b u v
+
+    -- a book's own row is written
+    pub put_row : (b : Book) → tabled d (set bs i b) xs ys ≡ set (tabled d bs xs ys) i (known b (take d (drop (i * d) xs)) (take d (drop (i * d) ys)))
+    put_row b = put_known b (cut d xs) (cut d ys) _ _ same_buys same_sells
+
+    -- and the rows of its levels on one side
+    pub put_buys : (b : Book) (w : ℕ) (us : List Level) → w ≡ d → length us ≡ d → tabled d (set bs i b) (put_mid (i * d) w xs us) ys ≡ set (tabled d bs xs ys) i (known b us (take d (drop (i * d) ys)))
+    put_buys b w us wide e = put_known b _ (cut d ys) us _ (cut_put d i w xs us wide in_buys e) same_sells
+
+    pub put_sells : (b : Book) (w : ℕ) (vs : List Level) → w ≡ d → length vs ≡ d → tabled d (set bs i b) xs (put_mid (i * d) w ys vs) ≡ set (tabled d bs xs ys) i (known b (take d (drop (i * d) xs)) vs)
+    put_sells b w vs wide e = put_known b (cut d xs) _ _ vs same_buys (cut_put d i w ys vs wide in_sells e)
 
     seen : (n : ℕ) → n ≡ suc i → book_of n (tabled d bs xs ys) ≡ Some (known (get_or bs i blank) (take d (drop (i * d) xs)) (take d (drop (i * d) ys)))
     seen n e = ap (λ n. book_of n (tabled d bs xs ys)) e ∙ slice_get-get_or (tabled d bs xs ys) i unknown h ∙ ap (λ b. Some b) (get_known unknown blank)
@@ -96,20 +102,12 @@ module _ (d : ℕ) (bs : List Book) (xs : List Level) (ys : List Level) where
     side_count : (c : ℕ) (zs : List Level) → i * d + d ≤ length zs → length (take c (take d (drop (i * d) zs))) ≡ min c d
     side_count c zs e = length-take c (take d (drop (i * d) zs)) ∙ ap (λ n. min c n) (part_long d i zs e)
 
-    pub spotted : (n : ℕ) → n ≡ suc i → Spot d bs xs ys n i
-    spotted n e =
+    counted : (n : ℕ) → n ≡ suc i → shown (book_of n (tabled d bs xs ys)) ≡ Some (record { whole = (get_or bs i blank).whole; touched = (get_or bs i blank).touched; buys = min (get_or bs i blank).buys d; sells = min (get_or bs i blank).sells d })
+    counted n e =
         let b = get_or bs i blank in
-        record {
-          next = e;
-          among = h;
-          in_books = in_books;
-          end_buys = end_buys;
-          end_sells = end_sells;
-          shows = seen n e;
-          counts = ap shown (seen n e)
-              ∙ ap (λ m. Some (record { whole = b.whole; touched = b.touched; buys = m; sells = length (take b.sells (take d (drop (i * d) ys))) })) (side_count b.buys xs end_buys)
-              ∙ ap (λ m. Some (record { whole = b.whole; touched = b.touched; buys = min b.buys d; sells = m })) (side_count b.sells ys end_sells);
-        }
+        ap shown (seen n e)
+        ∙ ap (λ m. Some (record { whole = b.whole; touched = b.touched; buys = m; sells = length (take b.sells (take d (drop (i * d) ys))) })) (side_count b.buys xs end_buys)
+        ∙ ap (λ m. Some (record { whole = b.whole; touched = b.touched; buys = min b.buys d; sells = m })) (side_count b.sells ys end_sells)
 
 -- a book that is not there
 pub past : (n : ℕ) (vs : List Known) → length vs ≤ n - 1 → Nowhere vs n
@@ -120,30 +118,92 @@ pub zeroth : (n : ℕ) (vs : List Known) → n ≡ 0 → Nowhere vs n
 zeroth zero vs e = record { same = λ f. refl; unseen = refl }
 zeroth (suc n) vs e = absurd (omega arith)
 
--- what `tell` made of a book and its rows, among the others
-pub told_at : (d : ℕ) (bs : List Book) (xs ys : List Level) (n i w : ℕ) (b z : Book) (xs' ys' : List Level) (f : Known → Known)
-    → Spot d bs xs ys n i → w ≡ d → length xs' ≡ length (take w (drop (i * d) xs)) → length ys' ≡ length (take w (drop (i * d) ys))
-    → known b xs' ys' ≡ f (known (get_or bs i z) (take w (drop (i * d) xs)) (take w (drop (i * d) ys)))
-    → tabled d (set bs i b) (put_mid (i * d) w xs xs') (put_mid (i * d) w ys ys') ≡ changed_at n f (tabled d bs xs ys)
-told_at d bs xs ys n i w b z xs' ys' f s wide ex ey e =
-    let e' : known b xs' ys' ≡ f (get_or (tabled d bs xs ys) i unknown) =
-    e ∙ ap (λ w. f (known (get_or bs i z) (take w (drop (i * d) xs)) (take w (drop (i * d) ys)))) wide
-    ∙ ap f (sym (get_known d bs xs ys i s.among unknown z)) in
-    put_known d bs xs ys i s.among b w xs' ys' wide
-    (ex ∙ ap (λ w. length (take w (drop (i * d) xs))) wide ∙ part_long d i xs s.end_buys) (ey ∙ ap (λ w. length (take w (drop (i * d) ys))) wide ∙ part_long d i ys s.end_sells)
-    ∙ ap (set (tabled d bs xs ys) i) e'
-    ∙ sym (ap (λ n. changed_at n f (tabled d bs xs ys)) s.next)
-
-pub side_is : {X : Type 0} (w c d : ℕ) (xs : List X) → w ≡ min c d → take w xs ≡ take c (take d xs)
-side_is w c d xs e = same_lists _ _ (search (rules, places)) (λ k z l. grind (arith, places))
+-- the used rows of a side, of those that the book at i has
+shown_is : {X : Type 0} (m w from c d at : ℕ) (xs : List X) → from ≡ at → w ≡ d → m ≡ min c d → take m (take w (drop from xs)) ≡ take c (take d (drop at xs))
+shown_is m w from c d at xs a e f = same_lists _ _ (search (rules, places)) (λ k z l. grind (arith, places))
 
 pub blanked : (d : ℕ) (b : Book) (v : Known) → ((x y : List Level) → known b x y ≡ v) → (bs cs : List Book) (xs ys : List Level) → cs ≡ replicate (length bs) b → tabled d cs xs ys ≡ replicate (length (tabled d bs xs ys)) v
 blanked d b v e bs cs xs ys r = ap (λ cs. tabled d cs xs ys) r ∙ known_blank b v e bs (cut d xs) (cut d ys)
 
+pub spotted : (t : Tables) (n i : ℕ) → n ≡ suc i → i < length (tables_known t) → Spot t n i
+spotted t n i e h =
+    let d = t.depth in
+    let bs = t.books.now in
+    let xs = t.buys.now in
+    let ys = t.sells.now in
+    record {
+      next = e;
+      among = h;
+      in_books = in_books d bs xs ys i h;
+      end_buys = end_buys d bs xs ys i h;
+      end_sells = end_sells d bs xs ys i h;
+      shows = seen d bs xs ys i h n e;
+      counts = counted d bs xs ys i h n e;
+    }
+
 -- tables of the sizes that are asked for have room for all books
-pub all_fit : (d : ℕ) (bs : List Book) (xs ys : List Level) → 1 ≤ d → length xs ≡ length bs * d → length ys ≡ length bs * d → length (tabled d bs xs ys) ≡ length bs
+all_fit : (d : ℕ) (bs : List Book) (xs ys : List Level) → 1 ≤ d → length xs ≡ length bs * d → length ys ≡ length bs * d → length (tabled d bs xs ys) ≡ length bs
 all_fit d bs xs ys p ex ey =
     let pos : 0 < d = omega arith in
     let x : length bs ≤ length xs / d = (le-div_iff_mul-le {k = d} {x = length bs} {y = length xs} pos).1 (omega arith) in
     let y : length bs ≤ length ys / d = (le-div_iff_mul-le {k = d} {x = length bs} {y = length ys} pos).1 (omega arith) in
     omega (arith, room_is d bs xs ys)
+
+-- what the test of the sizes says
+module _ (bs : List Book) (xs ys : List Level) (d : ℕ) (h : tables_fit bs xs ys d ≡ true) where
+  pub sizes : (1 ≤ d) × (d ≤ 4096) × (length xs ≡ length bs * d) × (length ys ≡ length bs * d)
+  sizes = search rules
+
+  pub room : length (tabled d bs xs ys) ≡ length bs
+  room = all_fit d bs xs ys sizes.0 sizes.2 sizes.3
+
+module _ (t : Tables) where
+  pub rooms : length (tables_known t) ≡ length t.books.now
+  rooms = room t.books.now t.buys.now t.sells.now t.depth t.fit
+
+  there : (i : ℕ) → i < length t.books.now → i < length (tables_known t)
+  there i h = omega (arith, rooms)
+
+  pub spot_is : (n i : ℕ) → n ≡ suc i → MatchOption (then_some (ltb i (length t.books.now)) i) (Nowhere (tables_known t) n) (λ i. Spot t n i)
+  spot_is n i e =
+      elim (ltb i (length t.books.now)) as (λ b. ltb i (length t.books.now) ≡ b → MatchOption (then_some b i) (Nowhere (tables_known t) n) (λ i. Spot t n i)) [
+        | true ↦ λ h. spotted t n i e (there i (ltb-true i _ h))
+        | false ↦ λ h. past n (tables_known t) (omega (arith, rooms, ltb-false i _ h))
+      ] refl
+
+  module _ (i : ℕ) (h : i < length t.books.now) where
+    -- the book at i
+    pub book_is : (z : Book) → get_or (tables_known t) i unknown ≡ known (get_or t.books.now i z) (take t.depth (drop (i * t.depth) t.buys.now)) (take t.depth (drop (i * t.depth) t.sells.now))
+    book_is z = get_known t.depth t.books.now t.buys.now t.sells.now i (there i h) unknown z
+
+    -- the book at i as its row is written
+    pub row_put : (b z : Book) (f : Known → Known) → ((xs ys : List Level) → known b xs ys ≡ f (known (get_or t.books.now i z) xs ys)) → tabled t.depth (set t.books.now i b) t.buys.now t.sells.now ≡ changed_at (suc i) f (tables_known t)
+    row_put b z f e =
+        put_row t.depth t.books.now t.buys.now t.sells.now i (there i h) b ∙ ap (set (tables_known t) i) (e _ _ ∙ ap f (sym (book_is z)))
+
+    -- and as the rows of one side are written too
+    pub buys_put : (b z : Book) (from w : ℕ) (us : List Level) (f : Known → Known) → from ≡ i * t.depth → w ≡ t.depth → length us ≡ length (take w (drop from t.buys.now))
+        → ((ys : List Level) → known b us ys ≡ f (known (get_or t.books.now i z) (take w (drop from t.buys.now)) ys))
+        → tabled t.depth (set t.books.now i b) (put_mid from w t.buys.now us) t.sells.now ≡ changed_at (suc i) f (tables_known t)
+    buys_put b z from w us f a c l e =
+        let part : take w (drop from t.buys.now) ≡ take t.depth (drop (i * t.depth) t.buys.now) = ap (λ w. take w (drop from t.buys.now)) c ∙ ap (λ n. take t.depth (drop n t.buys.now)) a in
+        let long = part_long t.depth i t.buys.now (end_buys t.depth t.books.now t.buys.now t.sells.now i (there i h)) in
+        ap (λ n. tabled t.depth (set t.books.now i b) (put_mid n w t.buys.now us) t.sells.now) a
+        ∙ put_buys t.depth t.books.now t.buys.now t.sells.now i (there i h) b w us c (l ∙ ap length part ∙ long)
+        ∙ ap (set (tables_known t) i) (e _ ∙ ap (λ xs. f (known (get_or t.books.now i z) xs (take t.depth (drop (i * t.depth) t.sells.now)))) part ∙ ap f (sym (book_is z)))
+
+    pub sells_put : (b z : Book) (from w : ℕ) (us : List Level) (f : Known → Known) → from ≡ i * t.depth → w ≡ t.depth → length us ≡ length (take w (drop from t.sells.now))
+        → ((xs : List Level) → known b xs us ≡ f (known (get_or t.books.now i z) xs (take w (drop from t.sells.now))))
+        → tabled t.depth (set t.books.now i b) t.buys.now (put_mid from w t.sells.now us) ≡ changed_at (suc i) f (tables_known t)
+    sells_put b z from w us f a c l e =
+        let part : take w (drop from t.sells.now) ≡ take t.depth (drop (i * t.depth) t.sells.now) = ap (λ w. take w (drop from t.sells.now)) c ∙ ap (λ n. take t.depth (drop n t.sells.now)) a in
+        let long = part_long t.depth i t.sells.now (end_sells t.depth t.books.now t.buys.now t.sells.now i (there i h)) in
+        ap (λ n. tabled t.depth (set t.books.now i b) t.buys.now (put_mid n w t.sells.now us)) a
+        ∙ put_sells t.depth t.books.now t.buys.now t.sells.now i (there i h) b w us c (l ∙ ap length part ∙ long)
+        ∙ ap (set (tables_known t) i) (e _ ∙ ap (λ ys. f (known (get_or t.books.now i z) (take t.depth (drop (i * t.depth) t.buys.now)) ys)) part ∙ ap f (sym (book_is z)))
+
+    pub buys_shown : (z : Book) (m w from : ℕ) → from ≡ i * t.depth → w ≡ t.depth → m ≡ min (get_or t.books.now i z).buys t.depth → take m (take w (drop from t.buys.now)) ≡ (get_or (tables_known t) i unknown).buys
+    buys_shown z m w from a e f = shown_is m w from _ t.depth (i * t.depth) t.buys.now a e f ∙ sym (ap (λ k. k.buys) (book_is z))
+
+    pub sells_shown : (z : Book) (m w from : ℕ) → from ≡ i * t.depth → w ≡ t.depth → m ≡ min (get_or t.books.now i z).sells t.depth → take m (take w (drop from t.sells.now)) ≡ (get_or (tables_known t) i unknown).sells
+    sells_shown z m w from a e f = shown_is m w from _ t.depth (i * t.depth) t.sells.now a e f ∙ sym (ap (λ k. k.sells) (book_is z))

@@ -1,15 +1,13 @@
 -- A book as it is known, and what the points of a message make of it.
-use Rattle.std.specs.Prelude.{ℕ, ◌*◌, ◌/◌, Bool, true, false, cond, List, [], ◌∷◌, map, length, take, Option, nat_le}
+use Rattle.std.specs.Prelude.{ℕ, ◌*◌, ◌/◌, Bool, true, false, cond, List, [], ◌∷◌, map, length, take, nat_le}
 use Rattle.std.specs.List.{range_with_len}
-use Rattle.std.specs.Option.{option_map}
 use Rattle.wire.specs.declared.point.Side.{Side}
 use Rattle.wire.specs.declared.point.Side.TheVariants.{Buy, Sell}
-use Rattle.wire.specs.Points.{full_at, delta_at, full_point, delta_point}
+use Rattle.wire.specs.declared.point.PricePoint.{PricePoint}
+use Rattle.wire.specs.Points.{full_at, delta_at}
 use Rattle.books.specs.declared.level.Level.{Level}
 use Rattle.books.specs.declared.level.Point.{Point}
 use Rattle.books.specs.declared.book.Book.{Book}
-use Rattle.books.specs.declared.book.Points.{Points}
-use Rattle.books.specs.declared.book.Points.TheVariants as points
 use Rattle.books.specs.declared.book.Start.{Start}
 use Rattle.books.specs.declared.book.Start.TheVariants as start
 use Rattle.books.specs.Levels.{price_of, before, changed, named}
@@ -74,15 +72,9 @@ full_points scale bs = map (λ i. named scale (full_at bs (i * 12))) (range_with
 abbrev pub delta_points : ℕ → List ℕ → List Point
 delta_points scale bs = map (λ i. named scale (delta_at bs (i * 28)).level) (range_with_len 0 (length bs / 28))
 
--- the points that a value of the code stands for
-abbrev pub points_of : Points → List Point
-points_of (points.Full scale bs) = full_points scale bs.now
-points_of (points.Delta scale bs) = delta_points scale bs.now
-
--- the point at an index, if there is one
-abbrev pub point_at : Points → ℕ → Option Point
-point_at (points.Full scale bs) i = option_map (named scale) (full_point bs.now i)
-point_at (points.Delta scale bs) i = option_map (λ p. named scale p.level) (delta_point bs.now i)
+-- points as they are told, at the scale of the message: `level` is the level that a point names
+abbrev pub points_of : {P : Type 0} → (P → PricePoint) → ℕ → List P → List Point
+points_of level scale ps = map (λ p. named scale (level p)) ps
 
 -- a book as a message with points begins
 abbrev pub begun : Start → Known → Known

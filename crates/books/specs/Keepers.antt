@@ -1,13 +1,13 @@
 -- A keeper: a table of books, numbered from 1, and what each event makes of it.
-use Rattle.std.specs.Prelude.{◌≡◌, ℕ, zero, suc, ◌+◌, ◌-◌, ◌*◌, ◌/◌, ◌<◌, ◌≤◌, min, Bool, true, false, cond, ◌&&◌, List, [], ◌∷◌, length, take, drop, replicate, Some, None, Option, ◌==◌, nat_le, slice_index_or, slice_set}
+use Rattle.std.specs.Prelude.{codes, decimal, ◌++◌, ◌≡◌, ℕ, zero, suc, ◌+◌, ◌-◌, ◌*◌, ◌/◌, ◌<◌, ◌≤◌, min, true, false, cond, List, [], ◌∷◌, length, take, drop, replicate, Some, None, Option, nat_le, slice_index_or, slice_set}
 use Rattle.std.specs.List.{slice_get}
 use Rattle.wire.specs.declared.point.Side.{Side}
 use Rattle.wire.specs.Reading.{reset, unavailable, mapping, full, delta}
 use Rattle.sink.specs.Events.{Event, data_of, loss_of, refresh_of, restart_of}
 use Rattle.books.specs.declared.level.Level.{Level}
 use Rattle.books.specs.declared.book.Book.{Book}
-use Rattle.books.specs.declared.tables.TableFault.{TableFault}
-use Rattle.books.specs.declared.tables.TableFault.TheVariants.{Sizes}
+use Rattle.books.specs.declared.fault.TableFault.{TableFault}
+use Rattle.books.specs.declared.fault.TableFault.TheVariants.{Sizes}
 use Rattle.books.specs.declared.tables.Tables.{Tables}
 use Rattle.books.specs.declared.keeper.BookKeeper.{BookKeeper}
 use Rattle.books.specs.Entering.{Known, known, unknown, emptied, touched_at, levels, filled, full_points, delta_points}
@@ -16,10 +16,9 @@ use Rattle.books.specs.Entering.{Known, known, unknown, emptied, touched_at, lev
 abbrev pub fault_number : TableFault → ℕ
 fault_number Sizes = 22
 
--- tables of 1 to 1,024 books, and for each book 1 to 4,096 levels a side
-abbrev pub tables_fit : List Book → List Level → List Level → ℕ → Bool
-tables_fit books buys sells depth =
-    nat_le 1 (length books) && nat_le (length books) 1024 && nat_le 1 depth && nat_le depth 4096 && length buys == length books * depth && length sells == length books * depth
+-- a refusal as it is printed
+abbrev pub table_fault_text : TableFault → List ℕ
+table_fault_text f = codes "refused " ++ decimal (fault_number f)
 
 -- n parts of xs, each of d elements
 abbrev pub parts : {X : Type 0} → ℕ → ℕ → List X → List (List X)
@@ -45,6 +44,11 @@ tabled d bs xs ys = each_known bs (cut d xs) (cut d ys)
 abbrev pub tables_known : Tables → List Known
 tables_known t = tabled t.depth t.books.now t.buys.now t.sells.now
 
+-- tables hold the books bs, at the depth of other tables
+pub record Becomes (old new : Tables) (bs : List Known) : Type 0 where
+  pub depth : new.depth ≡ old.depth
+  pub books : tables_known new ≡ bs
+
 -- tables that passed the check: n books at the depth d
 pub record Checked (t : Tables) (n d : ℕ) : Type 0 where
   pub depth : t.depth ≡ d
@@ -58,7 +62,7 @@ pub record Kept : Type 0 where
 
 -- the meaning of a keeper's value
 abbrev pub keeper_means : BookKeeper → Kept
-keeper_means k = record { depth = k.depth; mark = k.mark; books = tabled k.depth k.books.now k.buys.now k.sells.now }
+keeper_means k = record { depth = k.tables.depth; mark = k.mark; books = tables_known k.tables }
 
 -- a keeper of n books at its start
 abbrev pub fresh : ℕ → ℕ → Kept
@@ -120,11 +124,11 @@ abbrev pub blank : Book
 blank = record { whole = false; touched = 0; buys = 0; sells = 0 }
 
 -- the book with the number n is at i, and all three tables have its rows
-pub record Spot (d : ℕ) (bs : List Book) (xs ys : List Level) (n i : ℕ) : Type 0 where
+pub record Spot (t : Tables) (n i : ℕ) : Type 0 where
   pub next : n ≡ suc i
-  pub among : i < length (tabled d bs xs ys)
-  pub in_books : i < length bs
-  pub end_buys : i * d + d ≤ length xs
-  pub end_sells : i * d + d ≤ length ys
-  pub shows : book_of n (tabled d bs xs ys) ≡ Some (known (slice_index_or bs i blank) (take d (drop (i * d) xs)) (take d (drop (i * d) ys)))
-  pub counts : shown (book_of n (tabled d bs xs ys)) ≡ Some (record { whole = (slice_index_or bs i blank).whole; touched = (slice_index_or bs i blank).touched; buys = min (slice_index_or bs i blank).buys d; sells = min (slice_index_or bs i blank).sells d })
+  pub among : i < length (tables_known t)
+  pub in_books : i < length t.books.now
+  pub end_buys : i * t.depth + t.depth ≤ length t.buys.now
+  pub end_sells : i * t.depth + t.depth ≤ length t.sells.now
+  pub shows : book_of n (tables_known t) ≡ Some (known (slice_index_or t.books.now i blank) (take t.depth (drop (i * t.depth) t.buys.now)) (take t.depth (drop (i * t.depth) t.sells.now)))
+  pub counts : shown (book_of n (tables_known t)) ≡ Some (record { whole = (slice_index_or t.books.now i blank).whole; touched = (slice_index_or t.books.now i blank).touched; buys = min (slice_index_or t.books.now i blank).buys t.depth; sells = min (slice_index_or t.books.now i blank).sells t.depth })

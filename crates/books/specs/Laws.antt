@@ -9,7 +9,8 @@ use Rattle.books.specs.declared.level.Level.{Level}
 use Rattle.books.specs.declared.level.Point.{Point}
 use Rattle.books.specs.Levels.{price_of, before}
 use Rattle.books.specs.Entering.{Known, emptied, levels, put, put_all, full_points}
-use Rattle.books.specs.Keepers.{Kept, fresh, keeper_step, book_of, blank, tables_fit}
+use Rattle.books.specs.Sizes.{tables_fit}
+use Rattle.books.specs.Keepers.{Kept, fresh, keeper_step, book_of, blank}
 
 -- a side in order: each level strictly before the next, and at most d of them
 pub record Laddered (d : ℕ) (b : Known) (s : Side) : Type 0 where

@@ -1,3 +1,4 @@
+pub mod Sizes
 pub mod Levels
 pub mod Entering
 pub mod Keepers

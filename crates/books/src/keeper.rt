@@ -1,25 +1,19 @@
 //! The keeper: a sink over checked tables.
 ghost use Rattle.std.specs.Prelude.{◌≡◌, length};
 ghost use Rattle.sink.specs.Views.{WholeMoves};
-ghost use Rattle.books.specs.Entering.{told, points_of};
-ghost use Rattle.books.specs.Keepers.{Kept, keeper_means, keeper_step, tables_known, fresh, at_book, forgotten};
+ghost use Rattle.books.specs.Keepers.{Kept, keeper_means, keeper_step, tables_known, fresh, forgotten};
 ghost use Rattle.books.specs.Laws.{Keeping};
 
-use crate::book::{Book, Points, Start};
-use crate::buys::Buys;
-use crate::level::Level;
-use crate::sells::Sells;
-use crate::tables::{Tables, tell_at};
+use crate::book::Start;
+use crate::by_price::{Buys, Sells};
+use crate::tables::Tables;
 use sink::Sink;
-use wire::Message;
+use wire::{DeltaPoint, Message, Points, PricePoint};
 
 /// A keeper: the books of a channel, and the loss mark, which is the last number that may have been missed.
 #[derive(Drop)]
 pub struct BookKeeper<'a, 'b, 'c> {
-    pub(crate) books: &'a mut [Book],
-    pub(crate) buys: &'b mut [Level],
-    pub(crate) sells: &'c mut [Level],
-    pub(crate) depth: u16,
+    pub(crate) tables: Tables<'a, 'b, 'c>,
     pub(crate) mark: u32,
 }
 
@@ -28,45 +22,19 @@ impl<'a, 'b, 'c> BookKeeper<'a, 'b, 'c> {
     pub fn new(tables: Tables<'a, 'b, 'c>) -> BookKeeper<'a, 'b, 'c>
         ensures { keeper_means result ≡ fresh tables.entry.depth (length (tables_known tables.entry)) }
     {
-        let Tables {
-            books,
-            buys,
-            sells,
-            depth,
-        } = tables;
-        let mut keeper = BookKeeper {
-            books,
-            buys,
-            sells,
-            depth,
-            mark: 0,
-        };
+        let mut keeper = BookKeeper { tables, mark: 0 };
         keeper.forget(0);
         keeper
     }
 }
 
 impl BookKeeper<'_, '_, '_> {
-    // A message with points to the book of an index.
-    fn hear(&mut self, index: u16, start: Start, points: Points<'_>)
-        ensures { keeper_means self.new ≡ at_book index (told self.old.depth start (points_of points.entry)) (keeper_means self.old) }
-    {
-        let BookKeeper {
-            books,
-            buys,
-            sells,
-            depth,
-            mark: _,
-        } = self;
-        tell_at(books, buys, sells, *depth, index, start, points);
-    }
-
     // Numbers up to this one may have been missed: nothing is known of any book.
     fn forget(&mut self, number: u32)
         ensures { keeper_means self.new ≡ forgotten number (keeper_means self.old) }
     {
         self.mark = number;
-        self.books.fill(Book::UNKNOWN);
+        self.tables.forget();
     }
 }
 
@@ -83,24 +51,22 @@ impl<'a, 'b, 'c> Sink for BookKeeper<'a, 'b, 'c> {
                 index,
                 scale,
                 points,
-            } => {
-                let points = Points::Full {
-                    scale,
-                    bytes: points,
-                };
-                self.hear(index, Start::Full(number), points);
-            }
+            } => self.tables.tell(
+                index,
+                Start::Full(number),
+                scale,
+                Points::<PricePoint>::new(points),
+            ),
             Message::Delta {
                 index,
                 scale,
                 points,
-            } => {
-                let points = Points::Delta {
-                    scale,
-                    bytes: points,
-                };
-                self.hear(index, Start::Delta(number), points);
-            }
+            } => self.tables.tell(
+                index,
+                Start::Delta(number),
+                scale,
+                Points::<DeltaPoint>::new(points),
+            ),
             _ => {}
         }
     }
@@ -115,14 +81,14 @@ impl<'a, 'b, 'c> Sink for BookKeeper<'a, 'b, 'c> {
             scale,
             points,
         } = message
+            && self.mark <= number
         {
-            if self.mark <= number {
-                let points = Points::Full {
-                    scale,
-                    bytes: points,
-                };
-                self.hear(index, Start::Refresh(number), points);
-            }
+            self.tables.tell(
+                index,
+                Start::Refresh(number),
+                scale,
+                Points::<PricePoint>::new(points),
+            );
         }
     }
 

@@ -38,22 +38,21 @@ impl Point {
     }
 }
 
-// One level told to a side with room for `depth` levels, of which `used` are used: a level of volume 0 is removed, and another is entered.
+// One level told to a side, of whose rows `used` are used: a level of volume 0 is removed, and another is entered.
 // Gives how many are used then, or `None` where none is free.
 pub(crate) fn change<R: Rank<Row = Level, Key = u64>>(
     rows: &mut [Level],
     used: u16,
-    depth: u16,
     level: Level,
 ) -> Option<u16>
-    requires { length rows.old ≡ depth }
-    ensures { MatchOption result (depth < length (changed R.Rank.keyed R.Rank.before level (take used rows.old))) (λ n. Holds rows.new n (changed R.Rank.keyed R.Rank.before level (take used rows.old))) }
+    requires { length rows.old < 65536 }
+    ensures { MatchOption result (length rows.old < length (changed R.Rank.keyed R.Rank.before level (take used rows.old))) (λ n. Holds rows.new n (changed R.Rank.keyed R.Rank.before level (take used rows.old))) }
 {
-    if level.volume == 0 {
-        return Some(ladder::remove::<R>(rows, used as usize, R::key(&level)) as u16);
-    }
-    match ladder::enter::<R>(rows, used as usize, level) {
-        Some(count) => Some(count as u16),
-        None => None,
-    }
+    let used = usize::from(used);
+    let count = if level.volume == 0 {
+        ladder::remove::<R>(rows, used, R::key(&level))
+    } else {
+        ladder::enter::<R>(rows, used, level)?
+    };
+    Some(count as u16)
 }

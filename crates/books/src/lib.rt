@@ -2,16 +2,17 @@
 #![tactic(auto)]
 
 mod book;
-mod buys;
+mod by_price;
+mod fault;
 mod keeper;
 mod level;
 mod reads;
-mod sells;
 mod tables;
+mod telling;
 
 pub use book::Book;
-pub use buys::Buys;
+pub use by_price::{Buys, ByPrice, Sells};
+pub use fault::TableFault;
 pub use keeper::{BookKeeper, keeper_moves, keeping};
 pub use level::Level;
-pub use sells::Sells;
-pub use tables::{TableFault, Tables};
+pub use tables::Tables;

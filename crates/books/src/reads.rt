@@ -6,7 +6,6 @@ ghost use Rattle.std.specs.List.{slice_get};
 use crate::book::Book;
 use crate::keeper::BookKeeper;
 use crate::level::Level;
-use crate::tables::{nth_level, spot, used_part};
 use wire::Side;
 
 impl BookKeeper<'_, '_, '_> {
@@ -21,11 +20,11 @@ impl BookKeeper<'_, '_, '_> {
     pub fn book(&self, index: u16) -> Option<Book>
         ensures { result ≡ shown (book_of index (keeper_means self.now).books) }
     {
-        let i = spot(self.books, self.buys, self.sells, self.depth, index)?;
-        let book = self.books[i];
+        let tables = &self.tables;
+        let book = tables.books[tables.spot(index)?];
         Some(Book {
-            buys: book.buys.min(self.depth),
-            sells: book.sells.min(self.depth),
+            buys: book.buys.min(tables.depth),
+            sells: book.sells.min(tables.depth),
             ..book
         })
     }
@@ -34,12 +33,9 @@ impl BookKeeper<'_, '_, '_> {
     fn levels(&self, index: u16, side: Side) -> &[Level]
         ensures { result.now ≡ levels_shown side (book_of index (keeper_means self.now).books) }
     {
-        match spot(self.books, self.buys, self.sells, self.depth, index) {
+        match self.tables.spot(index) {
+            Some(i) => self.tables.levels(i, side),
             None => &[],
-            Some(i) => match side {
-                Side::Buy => used_part(self.buys, self.depth, i, self.books[i].buys),
-                Side::Sell => used_part(self.sells, self.depth, i, self.books[i].sells),
-            },
         }
     }
 
@@ -47,6 +43,6 @@ impl BookKeeper<'_, '_, '_> {
     pub fn level(&self, index: u16, side: Side, place: usize) -> Option<Level>
         ensures { result ≡ slice_get (levels_shown side (book_of index (keeper_means self.now).books)) place }
     {
-        nth_level(self.levels(index, side), place)
+        self.levels(index, side).get(place).copied()
     }
 }

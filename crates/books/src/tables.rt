@@ -1,30 +1,12 @@
 //! The three lent tables of a keeper: books, and the levels of the two sides of each.
-ghost use Rattle.std.specs.Prelude.{◌≡◌, ◌+◌, ◌*◌, ◌<◌, ◌≤◌, true, false, length, take, drop, MatchOption, MatchResult};
-ghost use Rattle.books.specs.Keepers.{fault_number, tables_fit, tabled, Checked, Spot, Nowhere, changed_at};
-ghost use Rattle.books.specs.Laws.{SizesWorked};
-ghost use Rattle.std.specs.List.{slice_get};
-ghost use Rattle.books.specs.Entering.{told, points_of};
+ghost use Rattle.std.specs.Prelude.{◌≡◌, ◌+◌, ◌*◌, ◌<◌, ◌≤◌, true, false, length, MatchOption, MatchResult, slice_index_or};
+ghost use Rattle.books.specs.Sizes.{tables_fit};
 
-use crate::book::{Book, Points, Start, tell};
+use crate::book::Book;
+use crate::fault::TableFault;
 use crate::level::Level;
-
-/// Why tables are refused.
-#[derive(Clone, Copy, PartialEq, Eq, Debug)]
-pub enum TableFault {
-    /// Not 1 to 1,024 books, not 1 to 4,096 levels a side, or not that many levels for each book.
-    Sizes,
-}
-
-impl TableFault {
-    /// The refusal's number.
-    pub fn number(self) -> u8
-        ensures { result ≡ fault_number self }
-    {
-        match self {
-            TableFault::Sizes => 22,
-        }
-    }
-}
+use std::ops::Range;
+use wire::Side;
 
 /// Tables whose sizes are checked: N books, and N times D levels of each side.
 #[derive(Drop)]
@@ -33,23 +15,25 @@ pub struct Tables<'a, 'b, 'c> {
     pub(crate) buys: &'b mut [Level],
     pub(crate) sells: &'c mut [Level],
     pub(crate) depth: u16,
+    pub ghost fit: { tables_fit books.now buys.now sells.now depth ≡ true },
 }
 
 // Whether tables are a keeper's at a depth.
 fn fit(books: &[Book], buys: &[Level], sells: &[Level], depth: usize) -> bool
     ensures is { result ≡ tables_fit books.now buys.now sells.now depth }
-    ensures count { result ≡ true → length (tabled depth books.now buys.now sells.now) ≡ length books.now }
-    ensures depth { result ≡ true → depth ≤ 4096 }
 {
-    if books.len() < 1 || books.len() > 1024 || depth < 1 || depth > 4096 {
-        return false;
-    }
-    let levels = books.len() * depth;
-    buys.len() == levels && sells.len() == levels
+    (1..=1024).contains(&books.len())
+        && (1..=4096).contains(&depth)
+        && buys.len() == books.len() * depth
+        && sells.len() == books.len() * depth
 }
 
 impl<'a, 'b, 'c> Tables<'a, 'b, 'c> {
+    ghost use Rattle.books.specs.Keepers.{Checked};
+    ghost use Rattle.books.specs.Laws.{SizesWorked};
+
     /// The tables, where their sizes are a keeper's. What they hold does not matter.
+    #[tactic(auto, using(crate::proofs::Rows::room))]
     pub fn check(
         books: &'a mut [Book],
         buys: &'b mut [Level],
@@ -71,71 +55,39 @@ impl<'a, 'b, 'c> Tables<'a, 'b, 'c> {
     }
 }
 
-// Where the book with a number is: the numbers count from 1.
-pub(crate) fn spot(
-    books: &[Book],
-    buys: &[Level],
-    sells: &[Level],
-    depth: u16,
-    number: u16,
-) -> Option<usize>
-    ensures { MatchOption result (Nowhere (tabled depth books.now buys.now sells.now) number) (λ i. Spot depth books.now buys.now sells.now number i) }
-{
-    if number == 0 || depth == 0 {
-        return None;
-    }
-    let i = number as usize - 1;
-    let end = number as usize * depth as usize;
-    if i < books.len() && end <= buys.len() && end <= sells.len() {
-        Some(i)
-    } else {
-        None
-    }
-}
+impl Tables<'_, '_, '_> {
+    ghost use Rattle.books.specs.Entering.{levels, unknown};
+    ghost use Rattle.books.specs.Keepers.{tables_known, Spot, Nowhere};
 
-// A message with points to the book with a number.
-pub(crate) fn tell_at(
-    books: &mut [Book],
-    buys: &mut [Level],
-    sells: &mut [Level],
-    depth: u16,
-    number: u16,
-    start: Start,
-    points: Points<'_>,
-)
-    ensures { tabled depth books.new buys.new sells.new ≡ changed_at number (told depth start (points_of points.entry)) (tabled depth books.old buys.old sells.old) }
-{
-    if let Some(i) = spot(books, buys, sells, depth, number) {
-        let from = i * depth as usize;
-        let to = from + depth as usize;
-        tell(
-            &mut books[i],
-            &mut buys[from..to],
-            &mut sells[from..to],
-            depth,
-            start,
-            points,
-        );
+    // The place of the book with a number, if there is one: the numbers count from 1.
+    #[tactic(auto, using(crate::proofs::Rows::spot_is))]
+    pub(crate) fn spot(&self, number: u16) -> Option<usize>
+        ensures { MatchOption result (Nowhere (tables_known self.now) number) (λ i. Spot self.now number i) }
+    {
+        let i = usize::from(number).checked_sub(1)?;
+        (i < self.books.len()).then_some(i)
     }
-}
 
-// The rows of a side that the book at a place uses.
-pub(crate) fn used_part(rows: &[Level], depth: u16, i: usize, used: u16) -> &[Level]
-    requires { i * depth + depth ≤ length rows.now }
-    ensures { result.now ≡ take used (take depth (drop (i * depth) rows.now)) }
-{
-    let from = i * depth as usize;
-    let to = from + used.min(depth) as usize;
-    &rows[from..to]
-}
+    // Where the rows of the book at a place are, in the levels of each side.
+    pub(crate) fn rows(&self, i: usize) -> Range<usize>
+        requires { i < length self.now.books.now }
+        ensures start { result.start ≡ i * self.now.depth }
+        ensures end { result.end ≡ i * self.now.depth + self.now.depth }
+        ensures within { (result.end ≤ length self.now.buys.now) × (result.end ≤ length self.now.sells.now) }
+    {
+        let depth = usize::from(self.depth);
+        i * depth..i * depth + depth
+    }
 
-// The level at a place, if there is one.
-pub(crate) fn nth_level(levels: &[Level], place: usize) -> Option<Level>
-    ensures { result ≡ slice_get levels.now place }
-{
-    if place < levels.len() {
-        Some(levels[place])
-    } else {
-        None
+    // The levels of a side of the book at a place.
+    pub(crate) fn levels(&self, i: usize, side: Side) -> &[Level]
+        requires { i < length self.now.books.now }
+        ensures { result.now ≡ levels side (slice_index_or (tables_known self.now) i unknown) }
+    {
+        let book = self.books[i];
+        match side {
+            Side::Buy => &self.buys[self.rows(i)][..usize::from(book.buys.min(self.depth))],
+            Side::Sell => &self.sells[self.rows(i)][..usize::from(book.sells.min(self.depth))],
+        }
     }
 }

@@ -1,2 +1,3 @@
+pub mod Closed
 pub mod Lists
 pub mod Owns

@@ -1,5 +1,5 @@
 -- What an operator's actions come to.
-use Rattle.std.specs.Prelude.{◌≡◌, ℕ, true, cond, List, [], ◌∷◌, is_some, is_ok, IfSome, Some, None, Err, vec_items, Option}
+use Rattle.std.specs.Prelude.{◌≡◌, ℕ, true, cond, List, [], ◌∷◌, is_some, is_ok, IfSome, Some, None, Ok, Err, vec_items, Option, Result}
 use Rattle.std.specs.Option.{option_map}
 use Rattle.std.specs.Result.{result_ok, result_err}
 use Rattle.std.specs.Result as results
@@ -7,20 +7,21 @@ use Rattle.sink.specs.Events.{Event}
 use Rattle.sink.specs.declared.Sink.{Ghosts as Sink}
 use Rattle.shelf.specs.declared.Shelf.{Ghosts as Shelf}
 use Rattle.order.specs.Machine.{History}
+use Rattle.handover.specs.declared.fault.ChannelFault.{ChannelFault}
 use Rattle.handover.specs.declared.fault.ChannelFault.TheVariants.{Owed}
 use Rattle.handover.specs.Words.{either, answer}
-use Rattle.channel.specs.declared.channel.Channel.{Channel}
 use Rattle.channel.specs.declared.claim.Claim.{Claim}
 use Rattle.channel.specs.States.{State}
 use Rattle.channel.specs.Channels.{state}
 use Rattle.channel.specs.Offers.{offer_answer, offer_scratch}
-use Rattle.channel.specs.Calls.{make_answer, claim_answer, claim_buffer, settle_answer, restart_answer}
+use Rattle.channel.specs.Calls.{make_answer, claim_answer, claim_buffer, settle_answer, settle_after, restart_answer}
 use Rattle.channel.specs.Kept.{Promise}
 use Rattle.channel.specs.Follows.{Follows, Ask, make, offer, claim, settle, restart, noted, taken, after}
 use Rattle.operator.specs.declared.action.Action.{Action}
 use Rattle.operator.specs.declared.action.Action.TheVariants.{Make, Offer, Claim as Claims, Settle, Restart}
 use Rattle.operator.specs.declared.action.Asked.{Asked}
 use Rattle.operator.specs.declared.action.Reply.{Reply}
+use Rattle.operator.specs.declared.desk.Desk as declared
 use Rattle.operator.specs.declared.action.Reply.TheVariants.{Made, Offered, Claimed, Settled, Restarted, NoClaim}
 
 -- what an operator has: the channel, the claim in hand, and the buffer that offers and claims are lent
@@ -49,6 +50,18 @@ hand_after (restart n) c h = h
 abbrev pub asked_of : Claim → Asked
 asked_of k = record { channel = k.channel; serial = k.serial; begin = k.begin; end = k.end }
 
+-- the reply to a claim: none is asked for while one is in hand
+abbrev pub claim_reply : {M : Type 0} → Desk M → Result Asked ChannelFault
+claim_reply d = cond (is_some d.hand) (Err Owed) (answer (claim_answer d.channel d.buffer) asked_of)
+
+-- the reply to a settlement of the claim in hand, if one is
+abbrev pub settle_reply : {M : Type 0} → Desk M → Option (Result ℕ ChannelFault)
+settle_reply d = option_map (λ k. results.result_map_both (λ n. n) (λ e. e.0) (settle_answer d.channel k)) d.hand
+
+-- the answer to a closing of the desk: the channel with the claim in hand settled, or the refusal and the desk as it was
+abbrev pub close_answer : {M : Type 0} → Desk M → Result (State M) (ChannelFault × Desk M)
+close_answer d = either d.hand (Ok d.channel) (λ k. results.result_map_both (λ n. settle_after d.channel k) (λ e. (e.0, d)) (settle_answer d.channel k))
+
 module _ {M : Type 0} (step : Event → M → M) where
   -- the buffer after a call
   abbrev pub buffer_after : Ask → State M → List ℕ → List ℕ
@@ -70,8 +83,8 @@ module _ {M : Type 0} (step : Event → M → M) where
   abbrev pub reply_to : Action → Desk M → Reply
   reply_to (Make number source first) d = Made (make_answer d.channel (vec_items source) first)
   reply_to (Offer p) d = Offered (offer_answer step d.channel (vec_items p) d.buffer)
-  reply_to (Claims time) d = Claimed (cond (is_some d.hand) (Err Owed) (answer (claim_answer d.channel d.buffer) asked_of))
-  reply_to Settle d = either d.hand NoClaim (λ k. Settled (results.result_map_both (λ n. n) (λ e. e.0) (settle_answer d.channel k)))
+  reply_to (Claims time) d = Claimed (claim_reply d)
+  reply_to Settle d = either (settle_reply d) NoClaim (λ r. Settled r)
   reply_to (Restart n) d = Restarted (restart_answer d.channel n)
 
   -- the history that an action makes of an earlier one: its call, if it made one
@@ -110,6 +123,6 @@ placed (r ∷ rs) [] = []
 placed (r ∷ rs) (o ∷ os) = r ∷ placed rs os
 
 module _ {X Y : Type 0} (sink : Sink X) (shelf : Shelf Y) where
-  -- what an operator has, of the code's values
-  abbrev pub desk : Channel X Y → Option Claim → List ℕ → Desk sink.Meaning
-  desk c h b = record { channel = state sink shelf c; hand = h; buffer = b }
+  -- what an operator has, of the code's values: a desk, and the buffer
+  abbrev pub desk : declared.Desk X Y → List ℕ → Desk sink.Meaning
+  desk d b = record { channel = state sink shelf d.channel; hand = d.hand; buffer = b }

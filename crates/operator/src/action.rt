@@ -1,8 +1,11 @@
 //! What an operator does, and the reply to it.
-use channel::{ChannelFault, OfferFault, Taken};
+ghost use Rattle.std.specs.Prelude.{◌≡◌};
+ghost use Rattle.operator.specs.Desks.{asked_of};
+
+use channel::{ChannelFault, Claim, OfferFault, Taken};
 
 /// One action of an operator: a call, with what it is given. A settlement gives the claim in hand.
-#[derive(Drop)]
+#[derive(PartialEq, Eq, Debug, Drop)]
 pub enum Action {
     Make {
         number: u8,
@@ -28,8 +31,21 @@ pub struct Asked {
     pub end: u32,
 }
 
+impl From<&Claim> for Asked {
+    ghost from_gives = { λ k r. r ≡ asked_of k.now };
+
+    fn from(claim: &Claim) -> Asked {
+        Asked {
+            channel: claim.channel(),
+            serial: claim.serial(),
+            begin: claim.begin(),
+            end: claim.end(),
+        }
+    }
+}
+
 /// The reply to an action.
-#[derive(Clone, Copy)]
+#[derive(Clone, Copy, PartialEq, Eq, Debug)]
 pub enum Reply {
     Made(Result<(), ChannelFault>),
     Offered(Result<Taken, OfferFault>),

@@ -2,7 +2,7 @@
 #![tactic(auto)]
 
 mod action;
-mod acts;
+mod desk;
 
 pub use action::{Action, Asked, Reply};
-pub use acts::{act, run};
+pub use desk::Desk;

@@ -6,29 +6,30 @@ ghost use Rattle.channel.specs.Channels.{state};
 ghost use Rattle.operator.specs.Desks.{desk, IsOwn};
 ghost use Rattle.relay.specs.Relays.{Relayed};
 
-use channel::{Channel, ChannelFault, Claim};
-use operator::{Action, Reply, run};
+use channel::{Channel, ChannelFault};
+use operator::{Action, Desk, Reply};
 use shelf::Shelf;
 use sink::Sink;
 use slot_shelf::SlotShelf;
 use std::alloc::{AllocError, Global};
+use std::fmt;
 use tally::{Row, Tally};
 
-/// Opens a channel, and has two operators run their lists on it, one after the other. The buffer and the table of replies are the second one's in the end.
+/// Opens the channel of a desk, and has two operators run their lists at it, one after the other. The buffer and the table of replies are the second one's in
+/// the end.
 fn relay<S: Sink, H: Shelf>(
-    channel: &mut Channel<S, H>,
-    hand: &mut Option<Claim>,
+    shared: &mut Desk<S, H>,
     first: &[Action],
     second: &[Action],
     buffer: &mut [u8],
     replies: &mut [Reply],
 ) -> Result<(), ChannelFault>
-    ensures own { IsOwn (state (S.Sink) (H.Shelf) channel.old) hand.old → IsOwn (state (S.Sink) (H.Shelf) channel.new) hand.new }
-    ensures relayed { is_ok result ≡ true → Relayed S.Sink.step (first.now ++ second.now) (desk (S.Sink) (H.Shelf) channel.old hand.old buffer.old) (desk (S.Sink) (H.Shelf) channel.new hand.new buffer.new) }
+    ensures own { IsOwn (state (S.Sink) (H.Shelf) shared.old.channel) shared.old.hand → IsOwn (state (S.Sink) (H.Shelf) shared.new.channel) shared.new.hand }
+    ensures relayed { is_ok result ≡ true → Relayed S.Sink.step (first.now ++ second.now) (desk (S.Sink) (H.Shelf) shared.old buffer.old) (desk (S.Sink) (H.Shelf) shared.new buffer.new) }
 {
-    channel.make(7, b"RELAY", 1)?;
-    run(channel, hand, first, buffer, replies);
-    run(channel, hand, second, buffer, replies);
+    shared.make(7, b"RELAY", 1)?;
+    shared.run(first, buffer, replies);
+    shared.run(second, buffer, replies);
     Ok(())
 }
 
@@ -40,48 +41,28 @@ fn mapping(heap: Global, number: u8) -> Result<Action, AllocError> {
     Ok(Action::Offer(packet))
 }
 
-// What a reply says, in a word and a number.
-fn shown(heap: Global, reply: Reply) -> Result<String, AllocError> {
-    match reply {
-        Reply::Offered(Ok(taken)) => {
-            let last = taken.last;
-            let handed = taken.handed;
-            format!(in heap; "taken last={last} handed={handed}")
-        }
-        Reply::Offered(Err(fault)) => {
-            let number = fault.number();
-            format!(in heap; "refused {number}")
-        }
-        Reply::Claimed(Ok(asked)) => {
-            let begin = asked.begin;
-            let end = asked.end;
-            format!(in heap; "claimed {begin} to {end}")
-        }
-        Reply::Settled(Ok(missing)) => format!(in heap; "settled missing={missing}"),
-        _ => String::from_str(heap, "nothing"),
-    }
-}
+// What a reply says, in a word and its numbers.
+#[derive(Clone, Copy)]
+struct Shown(Reply);
 
-// Settles the claim in hand, which is the one that is out.
-fn put_down<S: Sink, H: Shelf>(channel: &mut Channel<S, H>, hand: Option<Claim>)
-    requires { IsOwn (state (S.Sink) (H.Shelf) channel.old) hand }
-{
-    if let Some(claim) = hand {
-        match channel.settle(claim) {
-            Ok(_missing) => {}
-            Err(_refused) => unreachable(),
+impl fmt::Display for Shown {
+    fn fmt<W: fmt::Write>(&self, f: &mut fmt::Formatter<W>) -> fmt::Result {
+        match self.0 {
+            Reply::Offered(Ok(taken)) => {
+                write!(f, "taken last={} handed={}", taken.last, taken.handed)
+            }
+            Reply::Offered(Err(fault)) => write!(f, "refused {}", fault.number()),
+            Reply::Claimed(Ok(asked)) => write!(f, "claimed {} to {}", asked.begin, asked.end),
+            Reply::Settled(Ok(missing)) => write!(f, "settled missing={missing}"),
+            _ => write!(f, "nothing"),
         }
     }
 }
 
 // The first operator sees 1 and 3 and claims the gap; the second gets 2, twice, and settles.
-fn show<S: Sink, H: Shelf>(
-    rt: &HostRuntime,
-    channel: &mut Channel<S, H>,
-    hand: &mut Option<Claim>,
-) -> anyhow::Result<()>
-    requires { IsOwn (state (S.Sink) (H.Shelf) channel.old) hand.old }
-    ensures { IsOwn (state (S.Sink) (H.Shelf) channel.new) hand.new }
+fn show<S: Sink, H: Shelf>(rt: &HostRuntime, desk: &mut Desk<S, H>) -> anyhow::Result<()>
+    requires { IsOwn (state (S.Sink) (H.Shelf) desk.old.channel) desk.old.hand }
+    ensures { IsOwn (state (S.Sink) (H.Shelf) desk.new.channel) desk.new.hand }
 {
     let heap = rt.alloc();
     let first = [
@@ -92,12 +73,22 @@ fn show<S: Sink, H: Shelf>(
     let second = [mapping(heap, 2)?, mapping(heap, 2)?, Action::Settle];
     let mut buffer = [0; 1500];
     let mut replies = [Reply::NoClaim; 3];
-    if relay(channel, hand, &first, &second, &mut buffer, &mut replies).is_ok() {
+    if relay(desk, &first, &second, &mut buffer, &mut replies).is_ok() {
         for reply in replies {
-            rt.println(shown(heap, reply)?)?;
+            println!(rt; "{}", Shown(reply))?;
         }
     }
     Ok(())
+}
+
+// Closes a desk: the claim in hand, which is the one that is out, is settled.
+fn put_down<S: Sink + Drop, H: Shelf + Drop>(desk: Desk<S, H>)
+    requires { IsOwn (state (S.Sink) (H.Shelf) desk.channel) desk.hand }
+{
+    match desk.close() {
+        Ok(_channel) => {}
+        Err(_refused) => unreachable!(),
+    }
 }
 
 fn main(rt: HostRuntime) -> anyhow::Result<()> {
@@ -105,9 +96,9 @@ fn main(rt: HostRuntime) -> anyhow::Result<()> {
         index: 0,
         executed: 0,
     }; 4];
-    let mut channel = Channel::new(Tally::new(&mut rows), SlotShelf::new());
-    let mut hand = None;
-    let end = show(&rt, &mut channel, &mut hand);
-    put_down(&mut channel, hand);
+    let channel = Channel::new(Tally::new(&mut rows), SlotShelf::new());
+    let mut desk = Desk::new(channel, None);
+    let end = show(&rt, &mut desk);
+    put_down(desk);
     end
 }

@@ -1,15 +1,21 @@
-//! The order of the sell side.
+//! The orders of a book's two sides.
 ghost use Rattle.std.specs.Prelude.{nat_lt};
 ghost use Rattle.ladder.proofs.Numbers.{rising_irreflexive, rising_transitive, rising_total};
 
 use crate::level::Level;
-use ladder::Rank;
+use ladder::{Backwards, Rank};
+
+/// The rank of levels by price: the lower price comes first.
+#[derive(Drop)]
+pub struct ByPrice;
 
 /// The rank of sell levels: the lower price comes first.
-#[derive(Drop)]
-pub struct Sells;
+pub type Sells = ByPrice;
 
-impl Rank for Sells {
+/// The rank of buy levels: the higher price comes first.
+pub type Buys = Backwards<ByPrice>;
+
+impl Rank for ByPrice {
     type Row = Level;
 
     type Key = u64;

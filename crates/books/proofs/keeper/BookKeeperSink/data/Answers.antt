@@ -1,0 +1,28 @@
+use Rattle.std.proofs.Common.{sym, ap, ◌∙◌}
+use Rattle.wire.specs.Reading.{model}
+use Rattle.sink.specs.Events.{data_of}
+use Rattle.books.specs.Entering.{told, points_of}
+use Rattle.books.specs.declared.book.Start.TheVariants.{Full, Delta}
+use Rattle.books.specs.Keepers.{keeper_means, keeper_step, tables_known, changed_at}
+use Rattle.books.proofs.Filling.{full_is, delta_is, heard}
+use Rattle.books.proofs.keeper.BookKeeperSink.data.Goals as goal
+
+pub returns-in-Full : goal.returns-in-Full
+returns-in-Full c =
+    let k = c.args.self.now in
+    let n = c.args.number in
+    let m = c.in-Full in
+    let ps = ap (points_of (λ p. p) m.scale) c.new.ensures.all ∙ full_is m.scale m.points.now in
+    heard k.tables c.tell.new.self k.mark m.index _ c.tell.ensures.depth
+    (c.tell.ensures.books ∙ ap (λ ps. changed_at m.index (told k.tables.depth (Full n) ps) (tables_known k.tables)) ps)
+    ∙ sym (ap (λ m. keeper_step (data_of n (model m)) (keeper_means k)) m.is)
+
+pub returns-in-Delta : goal.returns-in-Delta
+returns-in-Delta c =
+    let k = c.args.self.now in
+    let n = c.args.number in
+    let m = c.in-Delta in
+    let ps = ap (points_of (λ p. p.level) m.scale) c.new-in-Delta.ensures.all ∙ delta_is m.scale m.points.now in
+    heard k.tables c.tell-in-Delta.new.self k.mark m.index _ c.tell-in-Delta.ensures.depth
+    (c.tell-in-Delta.ensures.books ∙ ap (λ ps. changed_at m.index (told k.tables.depth (Delta n) ps) (tables_known k.tables)) ps)
+    ∙ sym (ap (λ m. keeper_step (data_of n (model m)) (keeper_means k)) m.is)
