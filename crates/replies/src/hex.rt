@@ -1,8 +1,22 @@
 //! Bytes as hexadecimal digits.
 ghost use Rattle.std.specs.Prelude.{Some};
-ghost use Rattle.replies.specs.Hex.{hex_text};
+ghost use Rattle.replies.specs.Hex.{byte_text, hex_text};
 
 use std::fmt;
+
+// A byte, printed as its two digits.
+#[derive(Clone, Copy)]
+struct HexByte(u8);
+
+impl fmt::Display for HexByte {
+    ghost output = { λ byte. Some (byte_text byte.0) };
+
+    #[tactic(auto, using(crate::proofs::HexBytes::two_digits))]
+    fn fmt<W: fmt::Write>(&self, f: &mut fmt::Formatter<W>) -> fmt::Result {
+        let byte = self.0;
+        write!(f, "{byte:02x}")
+    }
+}
 
 /// Bytes, printed as hexadecimal digits, two to a byte, in lower case.
 #[derive(Clone, Copy)]
@@ -14,7 +28,8 @@ impl<'a> fmt::Display for Hex<'a> {
     fn fmt<W: fmt::Write>(&self, f: &mut fmt::Formatter<W>) -> fmt::Result {
         let bytes = self.0;
         for byte in bytes {
-            write!(f, "{byte:02x}")?;
+            let digits = HexByte(*byte);
+            write!(f, "{digits}")?;
         }
         Ok(())
     }
