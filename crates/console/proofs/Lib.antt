@@ -1,3 +1,4 @@
-mod Digits
+mod Decimals
+mod Places
 mod Splits
 pub mod Lines

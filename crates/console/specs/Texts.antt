@@ -1,15 +1,13 @@
 -- The text of answers.
-use Rattle.std.specs.Prelude.{ℕ, zero, suc, ◌+◌, ◌/◌, ◌%◌, List, [], ◌∷◌, ◌++◌, length, Some, None, Ok, Err, codes, decimal, Option, Result}
+use Rattle.std.specs.Prelude.{ℕ, zero, suc, ◌+◌, ◌/◌, ◌%◌, List, [], ◌∷◌, ◌++◌, length, Ok, Err, codes, decimal, Result}
+use Rattle.std.specs.List.{flat_map}
 use Rattle.wire.specs.declared.fault.ReadFault.{ReadFault}
 use Rattle.wire.specs.declared.point.Side.{Side}
-use Rattle.wire.specs.declared.point.Side.TheVariants.{Buy, Sell}
-use Rattle.wire.specs.declared.point.Reason.{Reason}
-use Rattle.wire.specs.declared.point.Reason.TheVariants.{Order, Cancel, Execution, Multiple}
 use Rattle.wire.specs.declared.point.PricePoint.{PricePoint}
 use Rattle.wire.specs.declared.point.DeltaPoint.{DeltaPoint}
-use Rattle.wire.specs.Faults.{fault_number, fault_offset}
+use Rattle.wire.specs.Texts.{side_text, reason_text, fault_text}
 use Rattle.wire.specs.Prices.{price}
-use Rattle.wire.specs.Points.{full_point, delta_point}
+use Rattle.wire.specs.Points.{full_at, delta_at, points}
 use Rattle.wire.specs.Reading.{Msg, Pkt, reset, unavailable, mapping, full, delta}
 
 -- the digits of a number at the given places
@@ -23,16 +21,6 @@ decimals = 100000000 ∷ 10000000 ∷ 1000000 ∷ 100000 ∷ 10000 ∷ 1000 ∷ 
 -- dollars with nine decimals
 abbrev pub price_text : ℕ → List ℕ
 price_text n = decimal (n / 1000000000) ++ (codes "." ++ places_from n decimals)
-
-abbrev pub side_text : Side → List ℕ
-side_text Buy = codes "buy"
-side_text Sell = codes "sell"
-
-abbrev pub reason_text : Reason → List ℕ
-reason_text Order = codes "O"
-reason_text Cancel = codes "C"
-reason_text Execution = codes "E"
-reason_text Multiple = codes "X"
 
 -- two blanks, the side, the price, the volume and the count of orders
 abbrev pub level_text : ℕ → PricePoint → List ℕ
@@ -49,14 +37,6 @@ priced_level_text side billionths volume orders =
 abbrev pub delta_text : ℕ → DeltaPoint → List ℕ
 delta_text scale p =
     level_text scale p.level ++ (codes " " ++ (reason_text p.reason ++ (codes " " ++ (decimal p.changed ++ (codes " " ++ decimal p.link)))))
-
--- an offset stands beside the number of a body fault
-abbrev pub offset_text : Option ℕ → List ℕ
-offset_text None = codes " by reader"
-offset_text (Some o) = codes " by reader offset=" ++ decimal o
-
-abbrev pub fault_text : ReadFault → List ℕ
-fault_text f = codes "refused " ++ (decimal (fault_number f) ++ offset_text (fault_offset f))
 
 -- an update by its kind, number, flag, link flag, index, scale and count of points
 abbrev pub update_text : List ℕ → Pkt → ℕ → ℕ → ℕ → List ℕ
@@ -76,38 +56,22 @@ heading_of (delta index scale ps) q = update_text (codes "delta") q index scale 
 abbrev pub heading : Pkt → List ℕ
 heading q = heading_of q.message q
 
-abbrev pub full_text : ℕ → Option PricePoint → List ℕ
-full_text scale None = []
-full_text scale (Some p) = level_text scale p
-
-abbrev pub change_text : ℕ → Option DeltaPoint → List ℕ
-change_text scale None = []
-change_text scale (Some p) = delta_text scale p
-
--- how many points a message has
-abbrev pub point_count : Msg → ℕ
-point_count (reset next) = 0
-point_count (unavailable b e) = 0
-point_count mapping = 0
-point_count (full index scale ps) = length ps / 12
-point_count (delta index scale ps) = length ps / 28
-
--- the text of the point at an index
-abbrev pub point_text : Msg → ℕ → List ℕ
-point_text (reset next) i = []
-point_text (unavailable b e) i = []
-point_text mapping i = []
-point_text (full index scale ps) i = full_text scale (full_point ps i)
-point_text (delta index scale ps) i = change_text scale (delta_point ps i)
-
 -- a line for each index below a bound
 abbrev pub lines : (ℕ → List ℕ) → ℕ → List ℕ
 lines f zero = []
 lines f (suc n) = lines f n ++ (f n ++ codes "\n")
 
+-- a line for each point that a line says so
+abbrev pub point_lines : {P : Type 0} → (P → List ℕ) → List P → List ℕ
+point_lines f ps = flat_map (λ p. f p ++ codes "\n") ps
+
 -- a line for each point of a message
 abbrev pub points_text : Msg → List ℕ
-points_text m = lines (point_text m) (point_count m)
+points_text (reset next) = []
+points_text (unavailable b e) = []
+points_text mapping = []
+points_text (full index scale ps) = point_lines (level_text scale) (points 12 full_at ps)
+points_text (delta index scale ps) = point_lines (delta_text scale) (points 28 delta_at ps)
 
 -- the answer to the reading of a packet, each line ended
 abbrev pub reading_text : Result Pkt ReadFault → List ℕ

@@ -1,80 +1,89 @@
-//! The answer to a line of a script.
-ghost use Rattle.std.specs.Prelude.{◌≡◌, IfOk, string_bytes};
-ghost use Rattle.std.specs.Option.{option_map};
+//! What the reader makes of a packet.
+ghost use Rattle.std.specs.Prelude.{◌≡◌, ℕ, List, IfOk, string_bytes};
+ghost use Rattle.wire.specs.Points.{points};
+ghost use Rattle.wire.specs.Prices.{price};
 ghost use Rattle.wire.specs.Reading.{reading, model};
-ghost use Rattle.console.specs.Texts.{point_count, point_text, points_text, reading_text};
-ghost use Rattle.console.specs.Commands.{command_in};
-ghost use Rattle.console.specs.Answers.{answer_to};
+ghost use Rattle.console.specs.Texts.{level_text, delta_text, point_lines, points_text, reading_text};
 
-use crate::command::{Command, parse};
-use crate::text::{delta_text, fault_text, level_text, packet_text};
+use crate::text::{Heading, PricedLevel};
 use std::alloc::{AllocError, Global};
-use wire::{Message, delta_count, delta_point, full_count, full_point, read};
+use wire::{DeltaPoint, Message, Point, Points, PricePoint, read};
 
-fn point_count(message: Message<'_>) -> usize
-    ensures { result ≡ point_count (model message.entry) }
+// A point of an update, as a line has it.
+trait Line: Point {
+    // What is said of the point at a scale.
+    ghost said: { ℕ → Self → List ℕ };
+
+    fn line(&self, alloc: Global, scale: u8) -> Result<String, AllocError>
+        ensures { IfOk result (λ t. string_bytes t ≡ said scale self.now) };
+}
+
+fn priced(point: PricePoint, scale: u8) -> PricedLevel
+    ensures { result ≡ record { side = point.side; price = price point.numerator scale; volume = point.volume; orders = point.orders } }
 {
-    match message {
-        Message::Full { points, .. } => full_count(points),
-        Message::Delta { points, .. } => delta_count(points),
-        _ => 0,
+    PricedLevel {
+        side: point.side,
+        price: point.price(scale),
+        volume: point.volume,
+        orders: point.orders,
     }
 }
 
-// The text of the point at an index; none where there is no such point.
-fn point_text(heap: Global, message: Message<'_>, i: usize) -> Result<String, AllocError>
-    ensures { IfOk result (λ t. string_bytes t ≡ point_text (model message.entry) i) }
-{
-    match message {
-        Message::Full { scale, points, .. } => match full_point(points, i) {
-            Some(point) => level_text(heap, point, scale),
-            None => Ok(String::new(heap)),
-        },
-        Message::Delta { scale, points, .. } => match delta_point(points, i) {
-            Some(point) => delta_text(heap, point, scale),
-            None => Ok(String::new(heap)),
-        },
-        _ => Ok(String::new(heap)),
+impl Line for PricePoint {
+    ghost said = { level_text };
+
+    fn line(&self, alloc: Global, scale: u8) -> Result<String, AllocError> {
+        let level = priced(*self, scale);
+        format!(in alloc; "{level}")
     }
 }
 
-// A line for each point of a message.
-fn points_text(heap: Global, message: Message<'_>) -> Result<String, AllocError>
-    ensures { IfOk result (λ t. string_bytes t ≡ points_text (model message.entry)) }
+impl Line for DeltaPoint {
+    ghost said = { delta_text };
+
+    fn line(&self, alloc: Global, scale: u8) -> Result<String, AllocError> {
+        let level = priced(self.level, scale);
+        let reason = self.reason;
+        let changed = self.changed;
+        let link = self.link;
+        format!(in alloc; "{level} {reason} {changed} {link}")
+    }
+}
+
+// A line for each point of an update.
+fn point_lines<P: Line>(alloc: Global, scale: u8, update: &[u8]) -> Result<String, AllocError>
+    ensures { IfOk result (λ t. string_bytes t ≡ point_lines (P.said scale) (points P.BYTES P.at update.now)) }
 {
-    let mut text = String::new(heap);
-    for i in 0..point_count(message) {
-        let point = point_text(heap, message, i)?;
-        text.push_str(point.as_str())?;
+    let mut text = String::new(alloc);
+    for point in Points::<P>::new(update) {
+        let line = point.line(alloc, scale)?;
+        text.push_str(line.as_str())?;
         text.push_str("\n")?;
     }
     Ok(text)
 }
 
+// A line for each point of a message.
+fn points_text(alloc: Global, message: Message<'_>) -> Result<String, AllocError>
+    ensures { IfOk result (λ t. string_bytes t ≡ points_text (model message.entry)) }
+{
+    match message {
+        Message::Full { scale, points, .. } => point_lines::<PricePoint>(alloc, scale, points),
+        Message::Delta { scale, points, .. } => point_lines::<DeltaPoint>(alloc, scale, points),
+        _ => Ok(String::new(alloc)),
+    }
+}
+
 /// What the reader makes of a packet: a line, and for an update a line for each point.
-pub fn read_answer(heap: Global, packet: &[u8]) -> Result<String, AllocError>
+pub fn read_answer(alloc: Global, packet: &[u8]) -> Result<String, AllocError>
     ensures { IfOk result (λ t. string_bytes t ≡ reading_text (reading packet.now)) }
 {
     match read(packet) {
         Ok(packet) => {
-            let heading = packet_text(heap, &packet)?;
-            let points = points_text(heap, packet.message)?;
-            format!(in heap; "{heading}\n{points}")
+            let heading = Heading(&packet);
+            let points = points_text(alloc, packet.message)?;
+            format!(in alloc; "{heading}\n{points}")
         }
-        Err(fault) => {
-            let refusal = fault_text(heap, fault)?;
-            format!(in heap; "{refusal}\n")
-        }
-    }
-}
-
-/// The answer to a line, each line of it ended; `None` to a line that is passed over.
-pub fn answer(heap: Global, line: &[u8]) -> Result<Option<String>, AllocError>
-    ensures { IfOk result (λ o. option_map string_bytes o ≡ answer_to (command_in line.now)) }
-{
-    match parse(heap, line)? {
-        Command::Pass => Ok(None),
-        Command::Unreadable => Ok(Some(String::from_str(heap, "unreadable\n")?)),
-        Command::Read(packet) => Ok(Some(read_answer(heap, packet.as_slice())?)),
+        Err(fault) => format!(in alloc; "{fault}\n"),
     }
 }

@@ -1,14 +1,10 @@
-//! The console: what a line of a script asks, and the text that answers it.
+//! The console: the words of a line, and the text of what the reader makes of a packet.
 #![tactic(auto)]
 
 mod answers;
-mod command;
-mod hex;
 mod text;
 mod words;
 
-pub use answers::{answer, read_answer};
-pub use command::{Command, parse};
-pub use hex::decode_hex;
-pub use text::{HELP, fault_text, packet_text, price_text, priced_level_text};
+pub use answers::read_answer;
+pub use text::{Dollars, Heading, PricedLevel};
 pub use words::next_word;

@@ -1,6 +1,6 @@
 //! The words of a line, parted by blanks.
-ghost use Rattle.std.specs.Prelude.{◌≡◌, ◌≤◌, length};
-ghost use Rattle.console.specs.Words.{blank, skip_blanks, word_length, next_word, told_words, words_in, words_of};
+ghost use Rattle.std.specs.Prelude.{◌≡◌, position, not};
+ghost use Rattle.console.specs.Words.{blank, next_word, told_words, words_in, words_of};
 
 // A space, a tab, or the carriage return of a line that ends in two bytes.
 fn is_blank(byte: u8) -> bool
@@ -9,28 +9,18 @@ fn is_blank(byte: u8) -> bool
     matches!(byte, b' ' | b'\t' | b'\r')
 }
 
-fn skip_blanks(line: &[u8]) -> &[u8]
-    ensures { result.now ≡ skip_blanks line.now }
+// Where the first word of a line begins.
+fn word_start(line: &[u8]) -> Option<usize>
+    ensures { result ≡ position (λ byte. not (blank byte)) line.now }
 {
-    for (i, byte) in line.iter().enumerate() {
-        if !is_blank(*byte) {
-            return &line[i..];
-        }
-    }
-    &[]
+    line.iter().position(|byte| !is_blank(*byte))
 }
 
-// How many bytes the word has that a line begins with.
-fn word_length(line: &[u8]) -> usize
-    ensures value { result ≡ word_length line.now }
-    ensures within { result ≤ length line.now }
+// Where the word ends that a line begins with, if blanks follow.
+fn word_end(line: &[u8]) -> Option<usize>
+    ensures { result ≡ position blank line.now }
 {
-    for (i, byte) in line.iter().enumerate() {
-        if is_blank(*byte) {
-            return i;
-        }
-    }
-    line.len()
+    line.iter().position(|byte| is_blank(*byte))
 }
 
 /// The first word of a line and what stands behind it, if the line has a word.
@@ -38,9 +28,6 @@ pub fn next_word(line: &[u8]) -> Option<(&[u8], &[u8])>
     ensures value { told_words result ≡ next_word line.now }
     ensures words { words_of (told_words result) ≡ words_in line.now }
 {
-    let line = skip_blanks(line);
-    if line.is_empty() {
-        return None;
-    }
-    Some(line.split_at(word_length(line)))
+    let line = &line[word_start(line)?..];
+    Some(line.split_at(word_end(line).unwrap_or(line.len())))
 }

@@ -31,17 +31,20 @@ offer_fault_number (Reader f) = fault_number f
 offer_fault_number (Shelf f) = put_fault_number f
 offer_fault_number (Channel f) = (channel_fault f).0
 
--- a refusal of a channel, by its number
-abbrev pub channel_fault_text : ChannelFault → List ℕ
-channel_fault_text f = refused_text (channel_fault f).0
+-- a refusal of a call that is no offer
+abbrev pub call_fault_text : ChannelFault → List ℕ
+call_fault_text f = refused_text (channel_fault f).0
 
--- a refusal of an offer by the channel: the next number stands beside a reset's
+-- the next number stands beside a reset's
 abbrev pub next_text : Option ℕ → List ℕ
 next_text None = codes " by channel"
 next_text (Some x) = codes " by channel next=" ++ decimal x
 
--- a refusal of an offer says who gave it
+abbrev pub channel_text : ℕ × Option ℕ → List ℕ
+channel_text x = refused_text x.0 ++ next_text x.1
+
+-- an offer's refusal says who gave it
 abbrev pub offer_fault_text : OfferFault → List ℕ
 offer_fault_text (Reader f) = fault_text f
 offer_fault_text (Shelf f) = refused_text (put_fault_number f) ++ codes " by shelf"
-offer_fault_text (Channel f) = channel_fault_text f ++ next_text (channel_fault f).1
+offer_fault_text (Channel f) = channel_text (channel_fault f)

@@ -1,7 +1,7 @@
 //! Why a call of a channel is refused.
 ghost use Rattle.std.specs.Prelude.{◌≡◌, Some};
 ghost use Rattle.handover.specs.declared.fault.OfferFault.TheVariants.{Reader, Shelf, Channel};
-ghost use Rattle.handover.specs.Faults.{channel_fault, channel_fault_text, offer_fault_number, offer_fault_text};
+ghost use Rattle.handover.specs.Faults.{call_fault_text, channel_fault, offer_fault_number, offer_fault_text};
 
 use shelf::PutFault;
 use std::error::Error;
@@ -76,7 +76,7 @@ impl ChannelFault {
 }
 
 impl fmt::Display for ChannelFault {
-    ghost output = { λ fault. Some (channel_fault_text fault) };
+    ghost output = { λ fault. Some (call_fault_text fault) };
 
     fn fmt<W: fmt::Write>(&self, f: &mut fmt::Formatter<W>) -> fmt::Result {
         write!(f, "refused {}", self.number())

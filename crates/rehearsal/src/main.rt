@@ -6,16 +6,15 @@ ghost use Rattle.operator.specs.Desks.{IsOwn};
 ghost use Rattle.session.specs.Commands.{board};
 
 use any_shelf::AnyShelf;
-use anyhow::anyhow;
 use books::{Book, BookKeeper, Level, Tables};
-use channel::{Channel, Claim};
-use replies::refused_text;
-use script::{Command, Setup, parse};
+use channel::Channel;
+use operator::Desk;
+use script::{Command, ParseError, Setup, Source, open_script, parse};
 use session::{Board, answer, answer_alone, open_shelf, table_sizes};
 use shelf::{Quota, Shelf};
 use sink::Twin;
+use std::alloc::{AllocError, Global};
 use std::env;
-use std::fs::File;
 use std::io::{BufRead, BufReader, Split};
 use tally::{Row, Tally};
 
@@ -26,104 +25,100 @@ use help::HELP;
 // The longest packet, which an offer needs as scratch.
 const SCRATCH: usize = 1500;
 
+// A level and a row that are not in use yet.
+const NO_LEVEL: Level = Level {
+    price: 0,
+    volume: 0,
+    orders: 0,
+};
+
+const NO_ROW: Row = Row {
+    index: 0,
+    executed: 0,
+};
+
+// What answers the commands of a script, but for a setup.
+trait Answers {
+    // What stays so from one answer to the next.
+    ghost keeps: { Self → Type 0 };
+
+    fn answer(
+        &mut self,
+        alloc: Global,
+        scratch: &mut [u8],
+        command: Command,
+    ) -> Result<String, AllocError>
+        requires { keeps self.old }
+        ensures { keeps self.new };
+}
+
+// No channel.
+#[derive(Clone, Copy)]
+struct Alone;
+
+impl Answers for Alone {
+    ghost keeps = { λ _. Unit {0} };
+
+    fn answer(
+        &mut self,
+        alloc: Global,
+        _scratch: &mut [u8],
+        command: Command,
+    ) -> Result<String, AllocError> {
+        answer_alone(alloc, command)
+    }
+}
+
+// A channel with the claim in hand, which is the one that is out.
+impl<'a, 'b, 'c, 'd, H: Shelf> Answers for Desk<Board<'a, 'b, 'c, 'd>, H> {
+    ghost keeps = { λ desk. IsOwn (state board (H.Shelf) desk.channel) desk.hand };
+
+    fn answer(
+        &mut self,
+        alloc: Global,
+        scratch: &mut [u8],
+        command: Command,
+    ) -> Result<String, AllocError> {
+        answer(alloc, self, scratch, command)
+    }
+}
+
 // Answers lines until a setup, which is given, or the end.
-fn serve<B: BufRead + Drop, H: Shelf>(
+fn serve<T: Answers>(
     rt: &HostRuntime,
-    lines: &mut Split<B>,
-    channel: &mut Channel<Board<'_, '_, '_, '_>, H>,
-    hand: &mut Option<Claim>,
-    scratch: &mut [u8],
+    lines: &mut Split<BufReader<Source>>,
+    served: &mut T,
 ) -> anyhow::Result<Option<Setup>>
-    requires { IsOwn (state board (H.Shelf) channel.old) hand.old }
-    ensures { IsOwn (state board (H.Shelf) channel.new) hand.new }
+    requires { T.keeps served.old }
+    ensures { T.keeps served.new }
 {
-    let heap = rt.alloc();
-    for _ in 0..u64::MAX {
-        let Some(line) = lines.next() else {
-            break;
-        };
-        let line = line?;
-        match parse(heap, line.as_slice())? {
-            Command::Setup(setup) => return Ok(Some(setup)),
-            command => rt.print(answer(heap, channel, hand, scratch, command)?)?,
-        }
-    }
-    Ok(None)
-}
-
-// The same where there is no channel.
-fn serve_alone<B: BufRead + Drop>(
-    rt: &HostRuntime,
-    lines: &mut Split<B>,
-) -> anyhow::Result<Option<Setup>> {
-    let heap = rt.alloc();
-    for _ in 0..u64::MAX {
-        let Some(line) = lines.next() else {
-            break;
-        };
-        let line = line?;
-        match parse(heap, line.as_slice())? {
-            Command::Setup(setup) => return Ok(Some(setup)),
-            command => rt.print(answer_alone(heap, command)?)?,
-        }
-    }
-    Ok(None)
-}
-
-// Settles the claim in hand, which is the one that is out.
-fn put_down<H: Shelf>(channel: &mut Channel<Board<'_, '_, '_, '_>, H>, hand: Option<Claim>)
-    requires { IsOwn (state board (H.Shelf) channel.old) hand }
-{
-    if let Some(claim) = hand {
-        match channel.settle(claim) {
-            Ok(_missing) => {}
-            Err(_refused) => unreachable(),
-        }
-    }
-}
-
-// The same, with the claim in hand until it is settled.
-fn serve_channel<B: BufRead + Drop, H: Shelf>(
-    rt: &HostRuntime,
-    lines: &mut Split<B>,
-    channel: &mut Channel<Board<'_, '_, '_, '_>, H>,
-) -> anyhow::Result<Option<Setup>> {
-    let mut hand = None;
+    let alloc = rt.alloc();
     let mut scratch = [0; SCRATCH];
-    let end = serve(rt, lines, channel, &mut hand, &mut scratch);
-    put_down(channel, hand);
-    end
-}
-
-fn print(rt: &HostRuntime, text: String) -> anyhow::Result<()> {
-    rt.print(text)?;
-    Ok(())
+    for line in lines.by_ref() {
+        match parse(alloc, line?.as_slice()) {
+            Ok(None) => {}
+            Ok(Some(Command::Setup(setup))) => return Ok(Some(setup)),
+            Ok(Some(command)) => rt.print(served.answer(alloc, &mut scratch, command)?)?,
+            Err(ParseError::Unreadable) => rt.print("unreadable\n")?,
+            Err(fault) => return Err(anyhow::Error::from(fault)),
+        }
+    }
+    Ok(None)
 }
 
 // A channel over tables of its own.
-fn serve_tables<B: BufRead + Drop>(
+fn serve_tables(
     rt: &HostRuntime,
-    lines: &mut Split<B>,
+    lines: &mut Split<BufReader<Source>>,
     setup: Setup,
     shelf: AnyShelf,
 ) -> anyhow::Result<Option<Setup>> {
-    let heap = rt.alloc();
+    let alloc = rt.alloc();
     let sizes = table_sizes(setup);
-    let mut books = vec![in heap; Book::UNKNOWN; sizes.books]?;
-    let mut buys = vec![in heap; Level {
-        price: 0,
-        volume: 0,
-        orders: 0
-    }; sizes.levels]?;
-    let mut sells = vec![in heap; Level {
-        price: 0,
-        volume: 0,
-        orders: 0
-    }; sizes.levels]?;
-    let mut rows = vec![in heap; Row {
-        index: 0,
-        executed: 0
-    }; sizes.rows]?;
+    let mut books = vec![in alloc; Book::UNKNOWN; sizes.books]?;
+    let mut buys = vec![in alloc; NO_LEVEL; sizes.levels]?;
+    let mut sells = vec![in alloc; NO_LEVEL; sizes.levels]?;
+    let mut rows = vec![in alloc; NO_ROW; sizes.rows]?;
     let tables = Tables::check(
         books.as_mut_slice(),
         buys.as_mut_slice(),
@@ -133,35 +128,41 @@ fn serve_tables<B: BufRead + Drop>(
     match tables {
         Ok(tables) => {
             let board = Twin::new(BookKeeper::new(tables), Tally::new(rows.as_mut_slice()));
-            let mut channel = Channel::new(board, Quota::new(shelf, setup.limit));
-            print(rt, String::from_str(heap, "ready\n")?)?;
-            serve_channel(rt, lines, &mut channel)
+            let channel = Channel::new(board, Quota::new(shelf, setup.limit));
+            rt.print("ready\n")?;
+            let mut desk = Desk::new(channel, None);
+            let end = serve(rt, lines, &mut desk);
+            match desk.close() {
+                Ok(_channel) => end,
+                Err(_refused) => unreachable!(),
+            }
         }
         Err(fault) => {
-            print(rt, refused_text(heap, fault.number())?)?;
-            serve_alone(rt, lines)
+            println!(rt; "{fault}")?;
+            serve(rt, lines, &mut Alone)
         }
     }
 }
 
 // What a setup asks for, until the next.
-fn serve_setup<B: BufRead + Drop>(
+fn serve_setup(
     rt: &HostRuntime,
-    lines: &mut Split<B>,
+    lines: &mut Split<BufReader<Source>>,
     setup: Setup,
 ) -> anyhow::Result<Option<Setup>> {
     match open_shelf(rt.alloc(), setup.shelf)? {
         Ok(shelf) => serve_tables(rt, lines, setup, shelf),
         Err(fault) => {
-            print(rt, refused_text(rt.alloc(), fault.number())?)?;
-            serve_alone(rt, lines)
+            println!(rt; "{fault}")?;
+            serve(rt, lines, &mut Alone)
         }
     }
 }
 
-fn run_script<B: BufRead + Drop>(rt: &HostRuntime, script: B) -> anyhow::Result<()> {
+fn run_script(rt: &HostRuntime, script: BufReader<Source>) -> anyhow::Result<()> {
     let mut lines = script.split(rt.alloc(), b'\n');
-    let mut next = serve_alone(rt, &mut lines)?;
+    let mut next = serve(rt, &mut lines, &mut Alone)?;
+    // Kept with a bound: each setup is a line of the input, which has no end that a proof knows.
     for _ in 0..u64::MAX {
         let Some(setup) = next else {
             break;
@@ -171,30 +172,13 @@ fn run_script<B: BufRead + Drop>(rt: &HostRuntime, script: B) -> anyhow::Result<
     Ok(())
 }
 
-fn open_script(rt: &HostRuntime, name: &str) -> anyhow::Result<File> {
-    match File::open(rt, name) {
-        Ok(file) => Ok(file),
-        Err(fault) => Err(anyhow!(format!(in rt.alloc(); "{name}: {fault}")?)),
-    }
-}
-
-fn first_argument(rt: &HostRuntime) -> anyhow::Result<Option<String>> {
-    let mut args = env::args(rt)?;
-    let _ = args.next();
-    Ok(args.next())
-}
-
 fn run(rt: &HostRuntime) -> anyhow::Result<()> {
-    match first_argument(rt)? {
-        None => run_script(rt, BufReader::new(rt.alloc(), rt.stdin())?),
+    match env::args(rt)?.nth(1) {
         Some(word) if word.as_str() == "--help" => {
-            print(rt, String::from_str(rt.alloc(), HELP)?)?;
+            rt.print(HELP)?;
             Ok(())
         }
-        Some(name) => run_script(
-            rt,
-            BufReader::new(rt.alloc(), open_script(rt, name.as_str())?)?,
-        ),
+        name => run_script(rt, BufReader::new(rt.alloc(), open_script(rt, name)?)?),
     }
 }
 

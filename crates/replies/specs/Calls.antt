@@ -1,16 +1,11 @@
 -- The text of the answers to a channel's calls, each line ended.
 use Rattle.std.specs.Prelude.{ℕ, List, ◌++◌, take, Some, None, Ok, Err, codes, decimal, Option}
 use Rattle.std.specs.Option.{unwrap_or}
-use Rattle.shelf.specs.Store.{put_fault_number}
 use Rattle.handover.specs.declared.handover.Taken.{Taken}
-use Rattle.handover.specs.declared.fault.ChannelFault.{ChannelFault}
-use Rattle.handover.specs.declared.fault.OfferFault.{OfferFault}
-use Rattle.handover.specs.declared.fault.OfferFault.TheVariants.{Reader, Shelf, Channel}
-use Rattle.handover.specs.Faults.{channel_fault}
+use Rattle.handover.specs.Faults.{call_fault_text, offer_fault_text}
 use Rattle.operator.specs.declared.action.Asked.{Asked}
 use Rattle.operator.specs.declared.action.Reply.{Reply}
 use Rattle.operator.specs.declared.action.Reply.TheVariants.{Made, Offered, Claimed, Settled, Restarted, NoClaim}
-use Rattle.console.specs.Texts.{fault_text}
 use Rattle.tally.specs.declared.tally.Counters.{Counters}
 use Rattle.replies.specs.Hex.{hex_text}
 
@@ -32,40 +27,18 @@ settled_text missing = codes "settled missing=" ++ (decimal missing ++ codes "\n
 abbrev pub restarted_text : ℕ → List ℕ
 restarted_text last = codes "restarted last=" ++ (decimal last ++ codes "\n")
 
--- a refusal that says no more than its number
-abbrev pub refused_text : ℕ → List ℕ
-refused_text n = codes "refused " ++ (decimal n ++ codes "\n")
-
--- the next number stands beside a reset's
-abbrev pub next_text : Option ℕ → List ℕ
-next_text None = codes " by channel\n"
-next_text (Some x) = codes " by channel next=" ++ (decimal x ++ codes "\n")
-
-abbrev pub channel_text : ℕ × Option ℕ → List ℕ
-channel_text x = codes "refused " ++ (decimal x.0 ++ next_text x.1)
-
--- an offer's refusal says who gave it
-abbrev pub offer_fault_text : OfferFault → List ℕ
-offer_fault_text (Reader f) = fault_text f ++ codes "\n"
-offer_fault_text (Shelf f) = codes "refused " ++ (decimal (put_fault_number f) ++ codes " by shelf\n")
-offer_fault_text (Channel f) = channel_text (channel_fault f)
-
--- a refusal of another call
-abbrev pub call_fault_text : ChannelFault → List ℕ
-call_fault_text f = refused_text (channel_fault f).0
-
 -- the text of a reply, where last and the buffer are so after the action; the request is in front of the buffer
 abbrev pub reply_text : Reply → Option ℕ → List ℕ → List ℕ
 reply_text (Made (Ok u)) last buffer = made_text (unwrap_or last 0)
-reply_text (Made (Err f)) last buffer = call_fault_text f
+reply_text (Made (Err f)) last buffer = call_fault_text f ++ codes "\n"
 reply_text (Offered (Ok t)) last buffer = taken_text t
-reply_text (Offered (Err f)) last buffer = offer_fault_text f
+reply_text (Offered (Err f)) last buffer = offer_fault_text f ++ codes "\n"
 reply_text (Claimed (Ok a)) last buffer = claimed_text a (take 44 buffer)
-reply_text (Claimed (Err f)) last buffer = call_fault_text f
+reply_text (Claimed (Err f)) last buffer = call_fault_text f ++ codes "\n"
 reply_text (Settled (Ok n)) last buffer = settled_text n
-reply_text (Settled (Err f)) last buffer = call_fault_text f
+reply_text (Settled (Err f)) last buffer = call_fault_text f ++ codes "\n"
 reply_text (Restarted (Ok u)) last buffer = restarted_text (unwrap_or last 0)
-reply_text (Restarted (Err f)) last buffer = call_fault_text f
+reply_text (Restarted (Err f)) last buffer = call_fault_text f ++ codes "\n"
 reply_text NoClaim last buffer = codes "no claim\n"
 
 -- last, the units in use, the loss mark and the counts of a tally

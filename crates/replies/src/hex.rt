@@ -1,30 +1,36 @@
 //! Bytes as hexadecimal digits.
-ghost use Rattle.std.specs.Prelude.{◌≡◌, ◌<◌, IfOk, string_bytes};
-ghost use Rattle.replies.specs.Hex.{hex_digit, hex_text};
+ghost use Rattle.std.specs.Prelude.{Some};
+ghost use Rattle.replies.specs.Hex.{byte_text, hex_text};
 
-use std::alloc::{AllocError, Global};
+use std::fmt;
 
-// The digit of a value below 16.
-fn hex_digit(value: u8) -> char
-    requires { value < 16 }
-    ensures is { result ≡ hex_digit value }
-    ensures ascii { result < 128 }
-{
-    if value < 10 {
-        (b'0' + value) as char
-    } else {
-        (87 + value) as char
+// A byte, printed as its two digits.
+#[derive(Clone, Copy)]
+struct HexByte(u8);
+
+impl fmt::Display for HexByte {
+    ghost output = { λ byte. Some (byte_text byte.0) };
+
+    #[tactic(auto, using(crate::proofs::HexBytes::two_digits))]
+    fn fmt<W: fmt::Write>(&self, f: &mut fmt::Formatter<W>) -> fmt::Result {
+        let byte = self.0;
+        write!(f, "{byte:02x}")
     }
 }
 
-/// Bytes as hexadecimal digits, two to a byte, in lower case.
-pub fn hex_text(heap: Global, bytes: &[u8]) -> Result<String, AllocError>
-    ensures { IfOk result (λ t. string_bytes t ≡ hex_text bytes.now) }
-{
-    let mut text = String::new(heap);
-    for byte in bytes {
-        text.push(hex_digit(*byte / 16))?;
-        text.push(hex_digit(*byte % 16))?;
+/// Bytes, printed as hexadecimal digits, two to a byte, in lower case.
+#[derive(Clone, Copy)]
+pub struct Hex<'a>(pub &'a [u8]);
+
+impl<'a> fmt::Display for Hex<'a> {
+    ghost output = { λ bytes. Some (hex_text bytes.0.now) };
+
+    fn fmt<W: fmt::Write>(&self, f: &mut fmt::Formatter<W>) -> fmt::Result {
+        let bytes = self.0;
+        for byte in bytes {
+            let digits = HexByte(*byte);
+            write!(f, "{digits}")?;
+        }
+        Ok(())
     }
-    Ok(text)
 }

@@ -5,6 +5,6 @@ mod calls;
 mod hex;
 mod reads;
 
-pub use calls::{refused_text, reply_text, state_text};
-pub use hex::hex_text;
-pub use reads::{book_text, row_text};
+pub use calls::{ReplyLine, StateLine};
+pub use hex::Hex;
+pub use reads::{RowLine, book_text};

@@ -1,2 +1,4 @@
+mod Digits
 mod Keys
 mod Numerals
+mod Verbs

@@ -1,8 +1,10 @@
 -- What a line of a script asks.
-use Rattle.std.specs.Prelude.{ℕ, cond, List, [], ◌∷◌, Some, None, vec_items, codes, Option}
+use Rattle.std.specs.Prelude.{◌≡◌, ℕ, cond, List, [], ◌∷◌, Some, None, Ok, Err, vec_items, codes, Option, Result}
 use Rattle.std.specs.Str.{bytes_eq}
 use Rattle.script.specs.declared.command.Command.{Command}
 use Rattle.script.specs.declared.command.Command.TheVariants as code
+use Rattle.script.specs.declared.error.ParseError.{ParseError}
+use Rattle.script.specs.declared.error.ParseError.TheVariants.{Unreadable, OutOfMemory}
 use Rattle.script.specs.declared.setup.Setup.{Setup}
 use Rattle.script.specs.declared.verb.Verb.{Verb}
 use Rattle.script.specs.declared.verb.Verb.TheVariants as verb
@@ -27,8 +29,6 @@ pub data Asked : Type 0 where
   state : Asked
 
 abbrev pub told_command : Command → Asked
-told_command code.Pass = pass
-told_command code.Unreadable = unreadable
 told_command (code.Read packet) = read (vec_items packet)
 told_command (code.Setup sizes) = setup sizes
 told_command (code.Make number source first) = make number (vec_items source) first
@@ -40,20 +40,33 @@ told_command (code.Book index) = book index
 told_command (code.Row index) = row index
 told_command code.State = state
 
+-- a command that was read, or none, is what a line asks; where memory ran out nothing is told of the line
+abbrev pub Tells : Result Command ParseError → Asked → Type 0
+Tells (Ok c) a = told_command c ≡ a
+Tells (Err Unreadable) a = unreadable ≡ a
+Tells (Err OutOfMemory) a = Unit {0}
+
+-- the same of a line, which may ask nothing
+abbrev pub TellsLine : Result (Option Command) ParseError → Asked → Type 0
+TellsLine (Ok None) a = pass ≡ a
+TellsLine (Ok (Some c)) a = told_command c ≡ a
+TellsLine (Err Unreadable) a = unreadable ≡ a
+TellsLine (Err OutOfMemory) a = Unit {0}
+
 -- the first word of a command
-abbrev pub verb_of : List ℕ → Verb
+abbrev pub verb_of : List ℕ → Option Verb
 verb_of w =
-    cond (bytes_eq w (codes "read")) verb.Read
-    (cond (bytes_eq w (codes "setup")) verb.Setup
-    (cond (bytes_eq w (codes "make")) verb.Make
-    (cond (bytes_eq w (codes "offer")) verb.Offer
-    (cond (bytes_eq w (codes "claim")) verb.Claim
-    (cond (bytes_eq w (codes "settle")) verb.Settle
-    (cond (bytes_eq w (codes "restart")) verb.Restart
-    (cond (bytes_eq w (codes "book")) verb.Book
-    (cond (bytes_eq w (codes "row")) verb.Row
-    (cond (bytes_eq w (codes "state")) verb.State
-    verb.Unknown)))))))))
+    cond (bytes_eq w (codes "read")) (Some verb.Read)
+    (cond (bytes_eq w (codes "setup")) (Some verb.Setup)
+    (cond (bytes_eq w (codes "make")) (Some verb.Make)
+    (cond (bytes_eq w (codes "offer")) (Some verb.Offer)
+    (cond (bytes_eq w (codes "claim")) (Some verb.Claim)
+    (cond (bytes_eq w (codes "settle")) (Some verb.Settle)
+    (cond (bytes_eq w (codes "restart")) (Some verb.Restart)
+    (cond (bytes_eq w (codes "book")) (Some verb.Book)
+    (cond (bytes_eq w (codes "row")) (Some verb.Row)
+    (cond (bytes_eq w (codes "state")) (Some verb.State)
+    None)))))))))
 
 -- a command of what can be read behind its first word
 abbrev pub asks : {T : Type 0} → (T → Asked) → Option T → Asked
@@ -88,11 +101,10 @@ by_verb verb.Restart ws = asks restart (only_number 32 ws)
 by_verb verb.Book ws = asks book (only_number 16 ws)
 by_verb verb.Row ws = asks row (only_number 16 ws)
 by_verb verb.State ws = bare state ws
-by_verb verb.Unknown ws = unreadable
 
 abbrev pub asked : List (List ℕ) → Asked
 asked [] = pass
-asked (w ∷ ws) = by_verb (verb_of w) ws
+asked (w ∷ ws) = asks (λ v. by_verb v ws) (verb_of w)
 
 -- a line that begins with `#` is passed over, and so is one without a word
 abbrev pub command_in : List ℕ → Asked

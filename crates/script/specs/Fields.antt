@@ -7,7 +7,7 @@ use Rattle.script.specs.declared.setup.ShelfKind.{ShelfKind}
 use Rattle.script.specs.declared.setup.ShelfKind.TheVariants.{Slots, Chain}
 use Rattle.console.specs.Words.{words_in}
 use Rattle.script.specs.Numbers.{number_in}
-use Rattle.console.specs.Hex.{hex_bytes}
+use Rattle.script.specs.Hex.{hex_bytes}
 
 -- what a function makes of a value, if there is one
 abbrev pub then : {T U : Type 0} → Option T → (T → Option U) → Option U

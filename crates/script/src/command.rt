@@ -1,24 +1,21 @@
 //! What a line of a script asks.
-ghost use Rattle.std.specs.Prelude.{◌≡◌, IfOk};
+ghost use Rattle.std.specs.Prelude.{◌≡◌, ◌∷◌};
 ghost use Rattle.console.specs.Words.{words_in};
-ghost use Rattle.script.specs.Fields.{only_number, packet_in, setup_in};
-ghost use Rattle.script.specs.Commands.{told_command, command_in, asks, read, offer, setup as asked-setup, claim, settle, restart, book, row, state, bare, make_in};
+ghost use Rattle.script.specs.Numbers.{number_in};
+ghost use Rattle.script.specs.Fields.{only_number};
+ghost use Rattle.script.specs.Commands.{Tells, TellsLine, command_in, asked, by_verb, make_in};
 
-use crate::fields::{only_u16, only_u32, read_packet, read_setup, read_source};
-use crate::number::read_u8;
+use crate::error::ParseError;
+use crate::fields::{only_number, read_packet, read_setup, read_source};
+use crate::number::read_number;
 use crate::setup::Setup;
-use crate::verb::{Verb, read_verb};
-use crate::words::begins;
+use crate::verb::Verb;
 use console::next_word;
-use std::alloc::{AllocError, Global};
+use std::alloc::Global;
 
 /// What a line asks.
 #[derive(Drop)]
 pub enum Command {
-    /// Nothing: the line is blank or a comment.
-    Pass,
-    /// The line can't be read as a command.
-    Unreadable,
     /// What the reader makes of a packet.
     Read(Vec<u8>),
     /// A closed channel over a shelf, a keeper and a tally.
@@ -53,130 +50,71 @@ pub enum Command {
     State,
 }
 
-fn parse_read(heap: Global, words: &[u8]) -> Result<Command, AllocError>
-    ensures { IfOk result (λ c. told_command c ≡ asks read (packet_in (words_in words.now))) }
+// The one index, if there is just one word and it writes one.
+fn only_index(words: &[u8]) -> Option<u16>
+    ensures { result ≡ only_number 16 (words_in words.now) }
 {
-    match read_packet(heap, words)? {
-        Some(packet) => Ok(Command::Read(packet)),
-        None => Ok(Command::Unreadable),
-    }
+    u16::try_from(only_number(words)?).ok()
 }
 
-fn parse_offer(heap: Global, words: &[u8]) -> Result<Command, AllocError>
-    ensures { IfOk result (λ c. told_command c ≡ asks offer (packet_in (words_in words.now))) }
+// The number that a word writes, where it fits 8 bits.
+fn read_byte(word: &[u8]) -> Option<u8>
+    ensures { result ≡ number_in 8 word.now }
 {
-    match read_packet(heap, words)? {
-        Some(packet) => Ok(Command::Offer(packet)),
-        None => Ok(Command::Unreadable),
-    }
+    u8::try_from(read_number(word)?).ok()
 }
 
-fn parse_setup(words: &[u8]) -> Command
-    ensures { told_command result ≡ asks asked-setup (setup_in (words_in words.now)) }
+// A number of 8 bits, a source id and a number of 32 bits.
+fn read_make(alloc: Global, words: &[u8]) -> Result<Command, ParseError>
+    ensures { Tells result (make_in (words_in words.now)) }
 {
-    match read_setup(words) {
-        Some(setup) => Command::Setup(setup),
-        None => Command::Unreadable,
-    }
+    let (number, words) = next_word(words).ok_or(ParseError::Unreadable)?;
+    let (source, words) = next_word(words).ok_or(ParseError::Unreadable)?;
+    let number = read_byte(number).ok_or(ParseError::Unreadable)?;
+    let first = only_number(words).ok_or(ParseError::Unreadable)?;
+    let source = read_source(alloc, source)?;
+    Ok(Command::Make {
+        number,
+        source,
+        first,
+    })
 }
 
-fn parse_make(heap: Global, words: &[u8]) -> Result<Command, AllocError>
-    ensures { IfOk result (λ c. told_command c ≡ make_in (words_in words.now)) }
+// A command by its first word, of what stands behind it.
+fn read_command(alloc: Global, verb: Verb, words: &[u8]) -> Result<Command, ParseError>
+    ensures { Tells result (by_verb verb (words_in words.now)) }
 {
-    let Some((number, words)) = next_word(words) else {
-        return Ok(Command::Unreadable);
+    let command = match verb {
+        Verb::Read => Some(Command::Read(read_packet(alloc, words)?)),
+        Verb::Setup => read_setup(words).map(Command::Setup),
+        Verb::Make => Some(read_make(alloc, words)?),
+        Verb::Offer => Some(Command::Offer(read_packet(alloc, words)?)),
+        Verb::Claim => only_number(words).map(|time| Command::Claim { time }),
+        Verb::Settle => next_word(words).is_none().then_some(Command::Settle),
+        Verb::Restart => only_number(words).map(|number| Command::Restart { number }),
+        Verb::Book => only_index(words).map(|index| Command::Book { index }),
+        Verb::Row => only_index(words).map(|index| Command::Row { index }),
+        Verb::State => next_word(words).is_none().then_some(Command::State),
     };
-    let Some((source, words)) = next_word(words) else {
-        return Ok(Command::Unreadable);
-    };
-    let (Some(number), Some(first)) = (read_u8(number), only_u32(words)) else {
-        return Ok(Command::Unreadable);
-    };
-    match read_source(heap, source)? {
-        Some(source) => Ok(Command::Make {
-            number,
-            source,
-            first,
-        }),
-        None => Ok(Command::Unreadable),
-    }
+    command.ok_or(ParseError::Unreadable)
 }
 
-fn parse_claim(words: &[u8]) -> Command
-    ensures { told_command result ≡ asks claim (only_number 32 (words_in words.now)) }
+// The same, of a word that may be none of them.
+fn read_words(alloc: Global, word: &[u8], words: &[u8]) -> Result<Command, ParseError>
+    ensures { Tells result (asked (word.now ∷ words_in words.now)) }
 {
-    match only_u32(words) {
-        Some(time) => Command::Claim { time },
-        None => Command::Unreadable,
-    }
+    read_command(alloc, Verb::try_from(word)?, words)
 }
 
-fn parse_settle(words: &[u8]) -> Command
-    ensures { told_command result ≡ bare settle (words_in words.now) }
+/// The command of a line, or none: blank lines and lines that begin with `#` are passed over.
+pub fn parse(alloc: Global, line: &[u8]) -> Result<Option<Command>, ParseError>
+    ensures { TellsLine result (command_in line.now) }
 {
-    if next_word(words).is_some() {
-        return Command::Unreadable;
+    if line.starts_with(b"#") {
+        return Ok(None);
     }
-    Command::Settle
-}
-
-fn parse_restart(words: &[u8]) -> Command
-    ensures { told_command result ≡ asks restart (only_number 32 (words_in words.now)) }
-{
-    match only_u32(words) {
-        Some(number) => Command::Restart { number },
-        None => Command::Unreadable,
-    }
-}
-
-fn parse_book(words: &[u8]) -> Command
-    ensures { told_command result ≡ asks book (only_number 16 (words_in words.now)) }
-{
-    match only_u16(words) {
-        Some(index) => Command::Book { index },
-        None => Command::Unreadable,
-    }
-}
-
-fn parse_row(words: &[u8]) -> Command
-    ensures { told_command result ≡ asks row (only_number 16 (words_in words.now)) }
-{
-    match only_u16(words) {
-        Some(index) => Command::Row { index },
-        None => Command::Unreadable,
-    }
-}
-
-fn parse_state(words: &[u8]) -> Command
-    ensures { told_command result ≡ bare state (words_in words.now) }
-{
-    if next_word(words).is_some() {
-        return Command::Unreadable;
-    }
-    Command::State
-}
-
-/// What a line asks. Blank lines and lines that begin with `#` are passed over.
-pub fn parse(heap: Global, line: &[u8]) -> Result<Command, AllocError>
-    ensures { IfOk result (λ c. told_command c ≡ command_in line.now) }
-{
-    if begins(line, b'#') {
-        return Ok(Command::Pass);
-    }
-    let Some((verb, words)) = next_word(line) else {
-        return Ok(Command::Pass);
-    };
-    match read_verb(verb) {
-        Verb::Read => parse_read(heap, words),
-        Verb::Setup => Ok(parse_setup(words)),
-        Verb::Make => parse_make(heap, words),
-        Verb::Offer => parse_offer(heap, words),
-        Verb::Claim => Ok(parse_claim(words)),
-        Verb::Settle => Ok(parse_settle(words)),
-        Verb::Restart => Ok(parse_restart(words)),
-        Verb::Book => Ok(parse_book(words)),
-        Verb::Row => Ok(parse_row(words)),
-        Verb::State => Ok(parse_state(words)),
-        Verb::Unknown => Ok(Command::Unreadable),
+    match next_word(line) {
+        Some((word, words)) => Ok(Some(read_words(alloc, word, words)?)),
+        None => Ok(None),
     }
 }

@@ -1,52 +1,51 @@
 //! The words behind the first of a command.
-ghost use Rattle.std.specs.Prelude.{◌≡◌, IfOk, vec_items};
+ghost use Rattle.std.specs.Prelude.{◌≡◌, vec_items};
 ghost use Rattle.std.specs.Option.{option_map};
 ghost use Rattle.console.specs.Words.{words_in};
+ghost use Rattle.script.specs.Hex.{hex_bytes};
+ghost use Rattle.script.specs.Faults.{Reads};
 ghost use Rattle.script.specs.Fields.{only, only_number, packet_in, keyed, source_in, field, shelf_in, quotas_from, setup_in, told_field};
 
-use crate::number::{read_u16, read_u32};
+use crate::error::ParseError;
+use crate::number::read_number;
 use crate::setup::{Setup, ShelfKind};
-use crate::verb::is_word;
-use console::{decode_hex, next_word};
-use std::alloc::{AllocError, Global};
+use console::next_word;
+use std::alloc::Global;
 
 // The one word, if there is just one.
 fn only_word(words: &[u8]) -> Option<&[u8]>
     ensures { option_map (λ x. x.now) result ≡ only (words_in words.now) }
 {
     let (word, rest) = next_word(words)?;
-    if next_word(rest).is_some() {
-        None
-    } else {
-        Some(word)
-    }
+    next_word(rest).is_none().then_some(word)
 }
 
-// The one number of 32 bits, if there is just one word and it writes one.
-pub(crate) fn only_u32(words: &[u8]) -> Option<u32>
+// The one number, if there is just one word and it writes one.
+pub(crate) fn only_number(words: &[u8]) -> Option<u32>
     ensures { result ≡ only_number 32 (words_in words.now) }
 {
-    read_u32(only_word(words)?)
+    read_number(only_word(words)?)
 }
 
-// The same of 16 bits.
-pub(crate) fn only_u16(words: &[u8]) -> Option<u16>
-    ensures { result ≡ only_number 16 (words_in words.now) }
+// The bytes that a word writes, two digits to a byte.
+#[tactic(auto, using(crate::proofs::Digits::decoded_ok, crate::proofs::Digits::decoded_err))]
+fn decode_hex(alloc: Global, digits: &[u8]) -> Result<Vec<u8>, ParseError>
+    ensures { Reads vec_items result (hex_bytes digits.now) }
 {
-    read_u16(only_word(words)?)
+    Ok(hex::decode(alloc, digits)?)
 }
 
 // The bytes of just one word; no word writes no byte.
-pub(crate) fn read_packet(heap: Global, words: &[u8]) -> Result<Option<Vec<u8>>, AllocError>
-    ensures { IfOk result (λ o. option_map vec_items o ≡ packet_in (words_in words.now)) }
+pub(crate) fn read_packet(alloc: Global, words: &[u8]) -> Result<Vec<u8>, ParseError>
+    ensures { Reads vec_items result (packet_in (words_in words.now)) }
 {
     let Some((digits, rest)) = next_word(words) else {
-        return Ok(Some(Vec::new(heap)));
+        return Ok(Vec::new(alloc));
     };
     if next_word(rest).is_some() {
-        return Ok(None);
+        return Err(ParseError::Unreadable);
     }
-    decode_hex(heap, digits)
+    decode_hex(alloc, digits)
 }
 
 // What stands behind a key that a word begins with.
@@ -57,12 +56,12 @@ fn behind_key<'a>(word: &'a [u8], key: &[u8]) -> Option<&'a [u8]>
 }
 
 // A text, or bytes behind `hex:`.
-pub(crate) fn read_source(heap: Global, word: &[u8]) -> Result<Option<Vec<u8>>, AllocError>
-    ensures { IfOk result (λ o. option_map vec_items o ≡ source_in word.now) }
+pub(crate) fn read_source(alloc: Global, word: &[u8]) -> Result<Vec<u8>, ParseError>
+    ensures { Reads vec_items result (source_in word.now) }
 {
     match behind_key(word, b"hex:") {
-        Some(digits) => decode_hex(heap, digits),
-        None => Ok(Some(word.to_vec(heap)?)),
+        Some(digits) => decode_hex(alloc, digits),
+        None => Ok(word.to_vec(alloc)?),
     }
 }
 
@@ -71,18 +70,20 @@ fn read_field<'a>(words: &'a [u8], key: &[u8]) -> Option<(u32, &'a [u8])>
     ensures { told_field result ≡ field key.now (words_in words.now) }
 {
     let (word, rest) = next_word(words)?;
-    let number = read_u32(behind_key(word, key)?)?;
+    let number = read_number(behind_key(word, key)?)?;
     Some((number, rest))
 }
 
 fn read_shelf(word: &[u8]) -> Option<ShelfKind>
     ensures { result ≡ shelf_in word.now }
 {
-    if is_word(word, b"slots") {
-        return Some(ShelfKind::Slots);
+    match word {
+        b"slots" => Some(ShelfKind::Slots),
+        _ => {
+            let records = read_number(behind_key(word, b"chain=")?)?;
+            Some(ShelfKind::Chain { records })
+        }
     }
-    let records = read_u32(behind_key(word, b"chain=")?)?;
-    Some(ShelfKind::Chain { records })
 }
 
 // The least limit of the quota words in front, and what stands behind them.
@@ -95,7 +96,7 @@ fn read_quotas(words: &[u8]) -> Option<(u32, &[u8])>
         let Some(digits) = behind_key(word, b"quota=") else {
             return Some((least, rest));
         };
-        let limit = read_u32(digits)?;
+        let limit = read_number(digits)?;
         least = least.min(limit);
         rest = more;
     }
@@ -112,10 +113,7 @@ pub(crate) fn read_setup(words: &[u8]) -> Option<Setup>
     let (books, rest) = read_field(rest, b"books=")?;
     let (depth, rest) = read_field(rest, b"depth=")?;
     let (rows, rest) = read_field(rest, b"rows=")?;
-    if next_word(rest).is_some() {
-        return None;
-    }
-    Some(Setup {
+    next_word(rest).is_none().then_some(Setup {
         shelf,
         limit,
         books,

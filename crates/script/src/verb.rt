@@ -1,9 +1,11 @@
 //! The first word of a command.
 ghost use Rattle.std.specs.Prelude.{◌≡◌};
-ghost use Rattle.std.specs.Str.{bytes_eq};
 ghost use Rattle.script.specs.Commands.{verb_of};
+ghost use Rattle.script.specs.Faults.{readable};
 
-#[derive(Clone, Copy)]
+use crate::error::ParseError;
+
+#[derive(Clone, Copy, PartialEq, Eq, Debug)]
 pub(crate) enum Verb {
     Read,
     Setup,
@@ -15,39 +17,26 @@ pub(crate) enum Verb {
     Book,
     Row,
     State,
-    Unknown,
 }
 
-pub(crate) fn is_word(word: &[u8], name: &[u8]) -> bool
-    ensures { result ≡ bytes_eq word.now name.now }
-{
-    word == name
-}
+impl TryFrom<&[u8]> for Verb {
+    type Error = ParseError;
 
-pub(crate) fn read_verb(word: &[u8]) -> Verb
-    ensures { result ≡ verb_of word.now }
-{
-    if is_word(word, b"read") {
-        Verb::Read
-    } else if is_word(word, b"setup") {
-        Verb::Setup
-    } else if is_word(word, b"make") {
-        Verb::Make
-    } else if is_word(word, b"offer") {
-        Verb::Offer
-    } else if is_word(word, b"claim") {
-        Verb::Claim
-    } else if is_word(word, b"settle") {
-        Verb::Settle
-    } else if is_word(word, b"restart") {
-        Verb::Restart
-    } else if is_word(word, b"book") {
-        Verb::Book
-    } else if is_word(word, b"row") {
-        Verb::Row
-    } else if is_word(word, b"state") {
-        Verb::State
-    } else {
-        Verb::Unknown
+    ghost try_from_gives = { λ word result. result ≡ readable (verb_of word.now) };
+
+    fn try_from(word: &[u8]) -> Result<Verb, ParseError> {
+        match word {
+            b"read" => Ok(Verb::Read),
+            b"setup" => Ok(Verb::Setup),
+            b"make" => Ok(Verb::Make),
+            b"offer" => Ok(Verb::Offer),
+            b"claim" => Ok(Verb::Claim),
+            b"settle" => Ok(Verb::Settle),
+            b"restart" => Ok(Verb::Restart),
+            b"book" => Ok(Verb::Book),
+            b"row" => Ok(Verb::Row),
+            b"state" => Ok(Verb::State),
+            _ => Err(ParseError::Unreadable),
+        }
     }
 }

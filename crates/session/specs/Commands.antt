@@ -17,7 +17,7 @@ use Rattle.operator.specs.declared.action.Action.{Action}
 use Rattle.operator.specs.declared.action.Action.TheVariants as act
 use Rattle.operator.specs.Desks.{Desk, desk_after, reply_to}
 use Rattle.script.specs.declared.command.Command.{Command}
-use Rattle.script.specs.declared.command.Command.TheVariants.{Pass, Unreadable, Read, Setup, Make, Offer, Claim, Settle, Restart, Book, Row, State}
+use Rattle.script.specs.declared.command.Command.TheVariants.{Read, Setup, Make, Offer, Claim, Settle, Restart, Book, Row, State}
 use Rattle.console.specs.Texts.{reading_text}
 use Rattle.replies.specs.Calls.{reply_text, state_text}
 use Rattle.replies.specs.Reads.{book_text, row_text}
@@ -49,8 +49,6 @@ action_of (Offer p) = Some (act.Offer p)
 action_of (Claim t) = Some (act.Claim t)
 action_of Settle = Some act.Settle
 action_of (Restart n) = Some (act.Restart n)
-action_of Pass = None
-action_of Unreadable = None
 action_of (Read p) = None
 action_of (Setup s) = None
 action_of (Book i) = None
@@ -68,8 +66,6 @@ answer_to (Offer p) d = acted_text told (act.Offer p) d
 answer_to (Claim t) d = acted_text told (act.Claim t) d
 answer_to Settle d = acted_text told act.Settle d
 answer_to (Restart n) d = acted_text told (act.Restart n) d
-answer_to Pass d = []
-answer_to Unreadable d = codes "unreadable\n"
 answer_to (Read p) d = reading_text (reading (vec_items p))
 answer_to (Setup s) d = []
 answer_to (Book i) d = book_text i (book_of i d.channel.sink.0.books)
@@ -78,10 +74,8 @@ answer_to State d = state_text (last_of d.channel.opened) (used d.channel.shelf)
 
 -- what a command answers where no channel is set up
 abbrev pub answer_alone : Command → List ℕ
-answer_alone Pass = []
 answer_alone (Setup s) = []
 answer_alone (Read p) = reading_text (reading (vec_items p))
-answer_alone Unreadable = codes "unreadable\n"
 answer_alone (Make n source first) = codes "unreadable\n"
 answer_alone (Offer p) = codes "unreadable\n"
 answer_alone (Claim t) = codes "unreadable\n"

@@ -1,26 +1,32 @@
 //! What a command asks of a session, answered.
 ghost use Rattle.std.specs.Prelude.{◌≡◌, [], ◌∷◌, IfSome, IfOk, string_bytes};
-ghost use Rattle.operator.specs.Desks.{desk, RunsOn, IsOwn};
+ghost use Rattle.operator.specs.Desks.{desk as seen, RunsOn, IsOwn};
 ghost use Rattle.channel.specs.Channels.{state};
 ghost use Rattle.session.specs.Commands.{board, told, action_of, left_by, answer_to, answer_alone};
 
 use crate::acts::act_text;
 use crate::reads::{Board, book, row, show_state};
-use channel::{Channel, Claim};
 use console::read_answer;
-use operator::Action;
+use operator::{Action, Desk};
 use script::Command;
 use shelf::Shelf;
 use std::alloc::{AllocError, Global};
 
 /// The answer to a command where no channel is set up: then a packet can be read, and nothing else is readable. A setup is the caller's.
-pub fn answer_alone(heap: Global, command: Command) -> Result<String, AllocError>
+pub fn answer_alone(alloc: Global, command: Command) -> Result<String, AllocError>
     ensures { IfOk result (λ t. string_bytes t ≡ answer_alone command) }
 {
     match command {
-        Command::Pass | Command::Setup(_) => Ok(String::new(heap)),
-        Command::Read(packet) => read_answer(heap, packet.as_slice()),
-        _ => Ok(String::from_str(heap, "unreadable\n")?),
+        Command::Setup(_) => Ok(String::new(alloc)),
+        Command::Read(packet) => read_answer(alloc, packet.as_slice()),
+        Command::Make { .. }
+        | Command::Offer(_)
+        | Command::Claim { .. }
+        | Command::Settle
+        | Command::Restart { .. }
+        | Command::Book { .. }
+        | Command::Row { .. }
+        | Command::State => String::from_str(alloc, "unreadable\n"),
     }
 }
 
@@ -28,21 +34,19 @@ pub fn answer_alone(heap: Global, command: Command) -> Result<String, AllocError
 /// that history with the call of the command, and keeps the promise of it. A claim in hand that could be settled before can be settled after. A setup is the
 /// caller's.
 pub fn answer<H: Shelf>(
-    heap: Global,
-    channel: &mut Channel<Board<'_, '_, '_, '_>, H>,
-    hand: &mut Option<Claim>,
+    alloc: Global,
+    desk: &mut Desk<Board<'_, '_, '_, '_>, H>,
     buffer: &mut [u8],
     command: Command,
 ) -> Result<String, AllocError>
-    ensures text { IfOk result (λ t. string_bytes t ≡ answer_to command (desk board (H.Shelf) channel.old hand.old buffer.old)) }
-    ensures stands { IfSome (action_of command) (λ a. RunsOn told (a ∷ []) (desk board (H.Shelf) channel.old hand.old buffer.old) (desk board (H.Shelf) channel.new hand.new buffer.new)) }
-    ensures after { desk board (H.Shelf) channel.new hand.new buffer.new ≡ left_by command (desk board (H.Shelf) channel.old hand.old buffer.old) }
-    ensures own { IsOwn (state board (H.Shelf) channel.old) hand.old → IsOwn (state board (H.Shelf) channel.new) hand.new }
+    ensures text { IfOk result (λ t. string_bytes t ≡ answer_to command (seen board (H.Shelf) desk.old buffer.old)) }
+    ensures stands { IfSome (action_of command) (λ a. RunsOn told (a ∷ []) (seen board (H.Shelf) desk.old buffer.old) (seen board (H.Shelf) desk.new buffer.new)) }
+    ensures after { seen board (H.Shelf) desk.new buffer.new ≡ left_by command (seen board (H.Shelf) desk.old buffer.old) }
+    ensures own { IsOwn (state board (H.Shelf) desk.old.channel) desk.old.hand → IsOwn (state board (H.Shelf) desk.new.channel) desk.new.hand }
 {
     match command {
-        Command::Pass | Command::Setup(_) => Ok(String::new(heap)),
-        Command::Unreadable => Ok(String::from_str(heap, "unreadable\n")?),
-        Command::Read(packet) => read_answer(heap, packet.as_slice()),
+        Command::Setup(_) => Ok(String::new(alloc)),
+        Command::Read(packet) => read_answer(alloc, packet.as_slice()),
         Command::Make {
             number,
             source,
@@ -53,16 +57,14 @@ pub fn answer<H: Shelf>(
                 source,
                 first,
             };
-            act_text(heap, channel, hand, buffer, action)
+            act_text(alloc, desk, buffer, action)
         }
-        Command::Offer(packet) => { act_text(heap, channel, hand, buffer, Action::Offer(packet)) }
-        Command::Claim { time } => { act_text(heap, channel, hand, buffer, Action::Claim { time }) }
-        Command::Settle => act_text(heap, channel, hand, buffer, Action::Settle),
-        Command::Restart { number } => {
-            act_text(heap, channel, hand, buffer, Action::Restart { number })
-        }
-        Command::Book { index } => book(heap, channel, index),
-        Command::Row { index } => row(heap, channel, index),
-        Command::State => show_state(heap, channel),
+        Command::Offer(packet) => act_text(alloc, desk, buffer, Action::Offer(packet)),
+        Command::Claim { time } => act_text(alloc, desk, buffer, Action::Claim { time }),
+        Command::Settle => act_text(alloc, desk, buffer, Action::Settle),
+        Command::Restart { number } => act_text(alloc, desk, buffer, Action::Restart { number }),
+        Command::Book { index } => book(alloc, desk.channel(), index),
+        Command::Row { index } => row(alloc, desk.channel(), index),
+        Command::State => show_state(alloc, desk.channel()),
     }
 }

@@ -10,7 +10,7 @@ ghost use Rattle.session.specs.Commands.{counters_of};
 
 use books::BookKeeper;
 use channel::Channel;
-use replies::{book_text, row_text, state_text};
+use replies::{RowLine, StateLine, book_text};
 use shelf::Shelf;
 use sink::Twin;
 use std::alloc::{AllocError, Global};
@@ -21,35 +21,41 @@ pub type Board<'a, 'b, 'c, 'd> = Twin<BookKeeper<'a, 'b, 'c>, Tally<'d>>;
 
 // The book of an index.
 pub(crate) fn book<H: Shelf>(
-    heap: Global,
+    alloc: Global,
     channel: &Channel<Board<'_, '_, '_, '_>, H>,
     index: u16,
 ) -> Result<String, AllocError>
     ensures { IfOk result (λ t. string_bytes t ≡ book_text index (book_of index (keeper_means channel.now.handover.sink.first).books)) }
 {
-    book_text(heap, channel.sink().first(), index)
+    book_text(alloc, channel.sink().first(), index)
 }
 
 // The executed volume of an index.
 pub(crate) fn row<H: Shelf>(
-    heap: Global,
+    alloc: Global,
     channel: &Channel<Board<'_, '_, '_, '_>, H>,
     index: u16,
 ) -> Result<String, AllocError>
     ensures { IfOk result (λ t. string_bytes t ≡ row_text index (executed_of index (meant channel.now.handover.sink.second).rows)) }
 {
-    row_text(heap, index, channel.sink().second().executed(index))
+    let executed = channel.sink().second().executed(index);
+    let line = RowLine { index, executed };
+    format!(in alloc; "{line}")
 }
 
 // Where a channel stands.
 pub(crate) fn show_state<H: Shelf>(
-    heap: Global,
+    alloc: Global,
     channel: &Channel<Board<'_, '_, '_, '_>, H>,
 ) -> Result<String, AllocError>
     ensures { IfOk result (λ t. string_bytes t ≡ state_text (option_map (λ _. channel.now.handover.last) channel.now.open) (used (H.Shelf.means channel.now.handover.shelf)) (keeper_means channel.now.handover.sink.first).mark (counters_of (meant channel.now.handover.sink.second))) }
 {
     let board = channel.sink();
-    let units = channel.shelf().used();
-    let mark = board.first().mark();
-    state_text(heap, channel.last(), units, mark, board.second().counters())
+    let line = StateLine {
+        last: channel.last(),
+        units: channel.shelf().used(),
+        mark: board.first().mark(),
+        counts: board.second().counters(),
+    };
+    format!(in alloc; "{line}")
 }

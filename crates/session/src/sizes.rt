@@ -26,7 +26,7 @@ fn region_bytes(records: u32) -> usize
 
 /// The shelf of a setup, or the refusal of a region that is too small or too large.
 pub fn open_shelf(
-    heap: Global,
+    alloc: Global,
     kind: ShelfKind,
 ) -> Result<Result<AnyShelf, RegionFault>, AllocError>
     ensures when { IfOk result (λ s. is_ok s ≡ shelf_fits kind) }
@@ -35,12 +35,13 @@ pub fn open_shelf(
     match kind {
         ShelfKind::Slots => Ok(Ok(AnyShelf::slots())),
         ShelfKind::Chain { records } => {
-            let bytes = vec![in heap; 0; region_bytes(records)]?;
+            let bytes = vec![in alloc; 0; region_bytes(records)]?;
             Ok(AnyShelf::chain(bytes))
         }
     }
 }
 
+// Kept with sizes of 0 for what no keeper has, where a `Result` would be plainer: this function can't fail, and the keeper's own test refuses such tables.
 /// The sizes of the tables of a setup. Where no keeper has such tables, all sizes are 0, which no keeper has either.
 pub fn table_sizes(setup: Setup) -> Sizes
     ensures { result ≡ sizes_of setup }

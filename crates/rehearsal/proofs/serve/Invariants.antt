@@ -1,8 +1,5 @@
-use Rattle.channel.specs.Channels.{state}
-use Rattle.operator.specs.Desks.{IsOwn}
-use Rattle.session.specs.Commands.{board}
 use Rattle.rehearsal.proofs.serve.Given as goal
 
--- the claim in hand is the one that is out
-abbrev pub invariant-loop : goal.invariant-loop
-invariant-loop g l = IsOwn (state board g.H.Shelf l.channel) l.hand
+-- what is served keeps what it is to keep
+abbrev pub invariant-loop-line : goal.invariant-loop-line
+invariant-loop-line g l = g.T.Answers.keeps l.served
