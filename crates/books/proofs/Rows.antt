@@ -114,10 +114,6 @@ pub past : (n : ℕ) (vs : List Known) → length vs ≤ n - 1 → Nowhere vs n
 past zero vs h = record { same = λ f. refl; unseen = refl }
 past (suc i) vs h = record { same = λ f. set_past vs i _ (omega arith); unseen = slice_get_past vs i (omega arith) }
 
-pub zeroth : (n : ℕ) (vs : List Known) → n ≡ 0 → Nowhere vs n
-zeroth zero vs e = record { same = λ f. refl; unseen = refl }
-zeroth (suc n) vs e = absurd (omega arith)
-
 -- the used rows of a side, of those that the book at i has
 shown_is : {X : Type 0} (m w from c d at : ℕ) (xs : List X) → from ≡ at → w ≡ d → m ≡ min c d → take m (take w (drop from xs)) ≡ take c (take d (drop at xs))
 shown_is m w from c d at xs a e f = same_lists _ _ (search (rules, places)) (λ k z l. grind (arith, places))

@@ -1,13 +1,13 @@
 -- What a search among the rows found.
-use Rattle.std.proofs.Common.{◌≡◌, ℕ, ◌+◌, ◌^◌, ◌<◌, min, true, false, List, [], ◌∷◌, length, get_or, take, drop, set, Some, None, Option, unwrap_or, sym, refl, ap, ◌∙◌, subst, add-zero, arith, rules}
-use Rattle.std.proofs.lemmas.List.{get_or-take, get_or-drop, length-take, same_lists, places}
-use Rattle.std.proofs.lemmas.Bool.{cond_both, both_ways}
+use Rattle.std.proofs.Common.{◌≡◌, ℕ, ◌+◌, ◌^◌, ◌<◌, ◌≤◌, min, true, false, List, [], ◌∷◌, length, get_or, take, drop, set, Some, None, Option, unwrap_or, sym, refl, ap, ◌∙◌, subst, add-zero, arith, rules}
+use Rattle.std.proofs.lemmas.List.{get_or-take, get_or-drop, length-take, length-set, same_lists, places}
+use Rattle.std.proofs.lemmas.Bool.{cond_both, both_ways, cond-true, le-leb}
 use Rattle.std.specs.Option.{option_map}
 use Rattle.ladder.specs.Ladders.{Found, Holds, held, fronted, entered}
 use Rattle.ladder.proofs.Edits.{replaces}
 use Rattle.tally.specs.declared.row.Row.{Row}
 use Rattle.tally.specs.Rows.{row_key, row_before}
-use Rattle.tally.specs.Tallies.{executed_of, capped64, summed}
+use Rattle.tally.specs.Tallies.{Counts, executed_of, capped64, summed, become, added}
 
 -- what is read past the last row
 abbrev pub blank : Row
@@ -22,9 +22,6 @@ fronted_none i [] e = refl
 fronted_none i (y ∷ ys) e = cond_both (row_before i (row_key y)) None (Some y) (λ o. o ≡ None) (λ t. refl) (λ t. absurd (both_ways true (sym (rw t refl) ∙ e) refl))
 
 module _ (i : ℕ) (rs : List Row) (used at : ℕ) where
-  pub found_within : Found row_key row_before i (take used rs) true at → at < length rs
-  found_within f = omega (arith, f.within, length-take used rs)
-
   pub found_executed : Found row_key row_before i (take used rs) true at → executed_of i (take used rs) ≡ Some (get_or rs at blank).executed
   found_executed f =
       let zs = take used rs in
@@ -51,10 +48,29 @@ first_rows : (rs : List Row) (used : ℕ) → take (min used (length rs)) rs ≡
 first_rows rs used = same_lists _ _ (search (rules, places)) (λ k d l. grind (arith, places))
 
 -- a sum written over the row of its index
-pub writes : (i q x : ℕ) (rs : List Row) (used n at : ℕ) → n ≡ min used (length rs) → x ≡ capped64 ((get_or rs at blank).executed + q)
-    → Found row_key row_before i (take used rs) true at → Holds (set rs at (record { index = i; executed = x })) n (summed i q (take used rs))
-writes i q x rs used n at m e f =
+writes : (i q x : ℕ) (rs : List Row) (used at : ℕ) → x ≡ capped64 ((get_or rs at blank).executed + q)
+    → Found row_key row_before i (take used rs) true at → take used (set rs at (record { index = i; executed = x })) ≡ summed i q (take used rs)
+writes i q x rs used at e f =
     let r : Row = record { index = i; executed = x } in
+    let n : ℕ = min used (length rs) in
     let P : ℕ → Type 0 = λ y. Holds (set rs at r) n (entered row_key row_before (record { index = i; executed = y }) (take used rs)) in
-    subst P (e ∙ row_found i rs used at q f)
-    (replaces rs used n (omega arith) (ap (λ (k : ℕ). take k rs) m ∙ first_rows rs used) row_key row_before r at f)
+    let h = subst P (e ∙ row_found i rs used at q f) (replaces rs used n (omega arith) (first_rows rs used) row_key row_before r at f) in
+    sym (first_rows (set rs at r) used) ∙ ap (λ m. take (min used m) (set rs at r)) (length-set rs at r) ∙ h.is
+
+-- a row that is found is added to, and no row is missed
+pub found_added : (i q x : ℕ) (c : Counts) (rs : List Row) (used at : ℕ) → c.rows ≡ take used rs → c.room ≡ length rs → x ≡ capped64 ((get_or rs at blank).executed + q) → Found row_key row_before i (take used rs) true at
+    → record { room = length (set rs at (record { index = i; executed = x })); rows = take used (set rs at (record { index = i; executed = x })); missed = c.missed; losses = c.losses } ≡ added i q c
+found_added i q x c rs used at a b e f =
+    let r : Row = record { index = i; executed = x } in
+    let w : take used (set rs at r) ≡ summed i q c.rows = writes i q x rs used at e f ∙ sym (ap (summed i q) a) in
+    let l : length (summed i q c.rows) ≤ c.room = omega (arith, ap length w, length-take used (set rs at r), length-set rs at r, b) in
+    ap (λ n. record { room = n; rows = take used (set rs at r); missed = c.missed; losses = c.losses }) (length-set rs at r ∙ sym b)
+    ∙ ap (λ ys. record { room = c.room; rows = ys; missed = c.missed; losses = c.losses }) w
+    ∙ sym (cond-true _ _ _ (le-leb _ _ l))
+
+-- a row that is not found is entered with the quantity
+pub none_added : (i q : ℕ) (c : Counts) (rs : List Row) (used at : ℕ) → c.rows ≡ take used rs → q < 2 ^ 64 → Found row_key row_before i (take used rs) false at
+    → become (entered row_key row_before (record { index = i; executed = q }) c.rows) c ≡ added i q c
+none_added i q c rs used at a l f =
+    ap (λ x. become (entered row_key row_before (record { index = i; executed = x }) c.rows) c)
+    (row_none i rs used at q l f ∙ ap (λ ys. capped64 (unwrap_or (executed_of i ys) 0 + q)) (sym a))

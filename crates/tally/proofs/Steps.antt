@@ -1,5 +1,7 @@
 -- A tally stays in order, and an addition changes one volume.
-use Rattle.std.proofs.Common.{◌≡◌, ℕ, zero, suc, ◌+◌, ◌/◌, leb, List, length, Some, None, Option, unwrap_or, refl, ap, ◌∙◌}
+use Rattle.std.specs.List.{slice_get}
+use Rattle.std.proofs.lemmas.List.{length-append, append_assoc}
+use Rattle.std.proofs.Common.{[], ◌∷◌, ◌++◌, sym, add-one, ◌≡◌, ℕ, zero, suc, ◌+◌, ◌/◌, leb, List, length, Some, None, Option, unwrap_or, refl, ap, ◌∙◌}
 use Rattle.std.proofs.lemmas.Bool.{cond_both, leb-true, le-leb, cond-true}
 use Rattle.std.specs.Option.{option_map}
 use Rattle.ladder.specs.Laws.{Laws}
@@ -11,7 +13,7 @@ use Rattle.wire.specs.Reading.{Msg, reset, unavailable, mapping, full, delta}
 use Rattle.sink.specs.Events.{data_of, loss_of, refresh_of, restart_of}
 use Rattle.tally.specs.declared.row.Row.{Row}
 use Rattle.tally.specs.Rows.{row_key, row_before}
-use Rattle.tally.specs.Tallies.{Counts, executed_of, capped64, summed, added, by_reason, maybe_added, points_added, told}
+use Rattle.tally.specs.Tallies.{Counts, executed_of, capped64, summed, added, by_reason, point_added, maybe_added, points_added, told}
 use Rattle.tally.specs.Laws.{InOrder, KeepsOrder, AddsToOne}
 
 module _ (laws : Laws row_key row_before) where
@@ -66,3 +68,18 @@ module _ (laws : Laws row_key row_before) where
             (λ _. ap executed (laws.entered_others (sum_row i q c.rows) j c.rows ne o.sorted))
             (λ _. refl);
       }
+
+-- the point behind those that were yielded
+seam : {X : Type 0} (ys : List X) (p : X) (zs : List X) → slice_get (ys ++ p ∷ zs) (length ys) ≡ Some p
+seam [] p zs = refl
+seam (y ∷ ys) p zs = seam ys p zs
+
+-- one point more of a delta
+pub more : (i : ℕ) (bs : List ℕ) (all ys left zs : List DeltaPoint) (p : DeltaPoint) (c d : Counts) → ((k : ℕ) → slice_get all k ≡ delta_point bs k) → all ≡ ys ++ left → left ≡ p ∷ zs → d ≡ point_added i p (points_added i bs (length ys) c)
+    → (all ≡ (ys ++ p ∷ []) ++ zs) × (d ≡ points_added i bs (length (ys ++ p ∷ [])) c)
+more i bs all ys left zs p c d each a e h =
+    let whole : all ≡ ys ++ p ∷ zs = a ∙ ap (λ l. ys ++ l) e in
+    let nth : delta_point bs (length ys) ≡ Some p = sym (each (length ys)) ∙ ap (λ l. slice_get l (length ys)) whole ∙ seam ys p zs in (
+      whole ∙ sym (append_assoc ys (p ∷ []) zs),
+      h ∙ sym (ap (λ n. points_added i bs n c) (length-append ys (p ∷ []) ∙ add-one (length ys)) ∙ ap (λ o. maybe_added i o (points_added i bs (length ys) c)) nth),
+    )

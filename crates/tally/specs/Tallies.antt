@@ -21,7 +21,7 @@ pub record Counts : Type 0 where
 
 -- what the code's tally means
 abbrev pub meant : Tally → Counts
-meant t = record { room = length t.rows.now; rows = take t.used t.rows.now; missed = t.missed; losses = t.losses }
+meant t = record { room = length t.rows.now; rows = take t.used t.rows.now; missed = t.counters.missed; losses = t.counters.losses }
 
 -- all rows free
 abbrev pub fresh : ℕ → Counts
@@ -42,12 +42,16 @@ executed_of i rs = option_map (λ r. r.executed) (looked row_key row_before i rs
 abbrev pub summed : ℕ → ℕ → List Row → List Row
 summed i q rs = entered row_key row_before (record { index = i; executed = capped64 (unwrap_or (executed_of i rs) 0 + q) }) rs
 
+-- the rows become rs, or a miss is counted where they are too many
+abbrev pub become : List Row → Counts → Counts
+become rs c =
+    cond (nat_le (length rs) c.room)
+    (record { room = c.room; rows = rs; missed = c.missed; losses = c.losses })
+    (record { room = c.room; rows = c.rows; missed = capped32 (c.missed + 1); losses = c.losses })
+
 -- a quantity is added, or a miss counted where no row is free
 abbrev pub added : ℕ → ℕ → Counts → Counts
-added i q c =
-    cond (nat_le (length (summed i q c.rows)) c.room)
-    (record { room = c.room; rows = summed i q c.rows; missed = c.missed; losses = c.losses })
-    (record { room = c.room; rows = c.rows; missed = capped32 (c.missed + 1); losses = c.losses })
+added i q c = become (summed i q c.rows) c
 
 -- an execution adds its changed quantity
 abbrev pub by_reason : Reason → ℕ → ℕ → Counts → Counts

@@ -1,6 +1,7 @@
 //! The tally: how much of each index was executed.
 #![tactic(auto)]
 
+mod reads;
 mod row;
 mod tally;
 

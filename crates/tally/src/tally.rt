@@ -1,22 +1,14 @@
 //! The tally: executed volume by index.
-ghost use Rattle.std.specs.Prelude.{◌≡◌, ◌/◌, ◌<◌, length, take, MatchOption};
-ghost use Rattle.ladder.specs.Ladders.{Holds};
-ghost use Rattle.tally.specs.Tallies.{Counts, meant, fresh, summed, executed_of, added, maybe_added, points_added, step as stepped};
+ghost use Rattle.std.specs.Prelude.{◌≡◌, ◌/◌, length};
+ghost use Rattle.tally.specs.Tallies.{Counts, meant, fresh, become, added, point_added, points_added, step as stepped};
+ghost use Rattle.ladder.specs.Ladders.{entered};
+ghost use Rattle.tally.specs.Rows.{row_key, row_before};
 ghost use Rattle.tally.specs.Laws.{InOrder, KeepsOrder, AddsToOne};
 
 use crate::row::{ByIndex, Row};
-use ladder::{enter, find};
+use ladder::enter;
 use sink::Sink;
-use wire::{DeltaPoint, Message, Reason, delta_count, delta_point};
-
-/// A sink that adds up what is executed, a row for each index, in as many rows as were lent.
-#[derive(Drop)]
-pub struct Tally<'a> {
-    rows: &'a mut [Row],
-    used: usize,
-    missed: u32,
-    losses: u32,
-}
+use wire::{DeltaPoint, Message, Points, Reason};
 
 /// The two counts of a tally; each stops at the largest number of 32 bits.
 #[derive(Clone, Copy, PartialEq, Eq, Debug)]
@@ -27,37 +19,14 @@ pub struct Counters {
     pub losses: u32,
 }
 
-// The executed volume of an index, if it has a row.
-fn executed_in(rows: &[Row], used: usize, index: u16) -> Option<u64>
-    ensures { result ≡ executed_of index (take used rows.now) }
-{
-    match find::<ByIndex>(rows, used, index) {
-        Ok(at) => Some(rows[at].executed),
-        Err(_) => None,
-    }
-}
-
-// Adds to the row of an index. Gives how many rows are used then, or `None` where none is free.
-fn add_to(rows: &mut [Row], used: usize, index: u16, quantity: u32) -> Option<usize>
-    ensures { MatchOption result ((length rows.old < length (summed index quantity (take used rows.old))) × (rows.new ≡ rows.old)) (λ n. Holds rows.new n (summed index quantity (take used rows.old))) }
-{
-    let quantity = u64::from(quantity);
-    match find::<ByIndex>(rows, used, index) {
-        Ok(at) => {
-            let count = used.min(rows.len());
-            let executed = rows[at].executed.saturating_add(quantity);
-            rows[at] = Row { index, executed };
-            Some(count)
-        }
-        Err(_) => enter::<ByIndex>(
-            rows,
-            used,
-            Row {
-                index,
-                executed: quantity,
-            },
-        ),
-    }
+/// A sink that adds up what is executed, a row for each index, in as many rows as were lent.
+// Kept with the count of the used rows beside them: the rows are lent, since memory is fixed.
+// Kept with `meant` in the contracts: it is the meaning that the trait of sinks names, and crates above speak of a tally by it; an `impl Model` would be a second one.
+#[derive(Drop)]
+pub struct Tally<'a> {
+    pub(crate) rows: &'a mut [Row],
+    pub(crate) used: usize,
+    pub(crate) counters: Counters,
 }
 
 impl<'a> Tally<'a> {
@@ -66,57 +35,52 @@ impl<'a> Tally<'a> {
         ensures free { meant result ≡ fresh (length rows.old) }
         ensures ordered { InOrder (meant result) }
     {
+        let counters = Counters {
+            missed: 0,
+            losses: 0,
+        };
         Tally {
             rows,
             used: 0,
-            missed: 0,
-            losses: 0,
+            counters,
         }
     }
 }
 
 impl Tally<'_> {
-    /// The executed volume of an index, if it has a row.
-    pub fn executed(&self, index: u16) -> Option<u64>
-        ensures { result ≡ executed_of index (meant self.now).rows }
+    // Adds a row, or counts a miss where none is free.
+    fn add_row(&mut self, row: Row)
+        ensures { meant self.new ≡ become (entered row_key row_before row (meant self.old).rows) (meant self.old) }
     {
-        executed_in(self.rows, self.used, index)
-    }
-
-    /// The executions that found no free row, and the numbers that were lost.
-    pub fn counters(&self) -> Counters
-        ensures missed { result.missed ≡ (meant self.now).missed }
-        ensures losses { result.losses ≡ (meant self.now).losses }
-    {
-        Counters {
-            missed: self.missed,
-            losses: self.losses,
+        match enter::<ByIndex>(self.rows, self.used, row) {
+            Some(used) => self.used = used,
+            None => self.counters.missed = self.counters.missed.saturating_add(1),
         }
     }
 
     // Adds to the row of an index, or counts a miss where no row is free.
+    // A row that is there is written where `find` found it, so that it is looked for once.
     fn add(&mut self, index: u16, quantity: u32)
         ensures { meant self.new ≡ added index quantity (meant self.old) }
     {
-        let used = self.used;
-        match add_to(self.rows, used, index, quantity) {
-            Some(n) => {
-                self.used = n;
+        let quantity = u64::from(quantity);
+        match self.place(index) {
+            Ok(at) => {
+                let executed = self.rows[at].executed.saturating_add(quantity);
+                self.rows[at] = Row { index, executed };
             }
-            None => {
-                self.missed = self.missed.saturating_add(1);
-            }
+            Err(_) => self.add_row(Row {
+                index,
+                executed: quantity,
+            }),
         }
     }
 
-    // Adds what a point, if there is one, says was executed.
-    fn add_point(&mut self, index: u16, point: Option<DeltaPoint>)
-        ensures { meant self.new ≡ maybe_added index point (meant self.old) }
+    // Adds what a point says was executed.
+    fn add_point(&mut self, index: u16, point: DeltaPoint)
+        ensures { meant self.new ≡ point_added index point (meant self.old) }
     {
-        let Some(point) = point else {
-            return;
-        };
-        if let Reason::Execution = point.reason {
+        if point.reason == Reason::Execution {
             self.add(index, point.changed);
         }
     }
@@ -125,8 +89,8 @@ impl Tally<'_> {
     fn add_points(&mut self, index: u16, points: &[u8])
         ensures { meant self.new ≡ points_added index points.now (length points.now / 28) (meant self.old) }
     {
-        for i in 0..delta_count(points) {
-            self.add_point(index, delta_point(points, i));
+        for point in Points::<DeltaPoint>::new(points) {
+            self.add_point(index, point);
         }
     }
 }
@@ -145,7 +109,7 @@ impl<'a> Sink for Tally<'a> {
     }
 
     fn loss(&mut self, _number: u32) {
-        self.losses = self.losses.saturating_add(1);
+        self.counters.losses = self.counters.losses.saturating_add(1);
     }
 
     fn refresh(&mut self, _number: u32, _message: Message<'_>) {}

@@ -1,6 +1,7 @@
-use Rattle.std.proofs.Common.{◌≡◌}
+use Rattle.std.proofs.Common.{◌≡◌, ◌++◌, length}
 use Rattle.tally.specs.Tallies.{meant, points_added}
 use Rattle.tally.proofs.tally.Tally.add_points.Given as goal
 
-abbrev pub invariant-loop-i : goal.invariant-loop-i
-invariant-loop-i l = meant l.self ≡ points_added l.index l.points l.i (meant l.initial.self)
+-- the points so far and those that are left are all, and those so far are added
+abbrev pub invariant-loop-point : goal.invariant-loop-point
+invariant-loop-point l = (l.initial.point-iterator ≡ l.yielded ++ l.point-iterator) × (meant l.self ≡ points_added l.index l.points (length l.yielded) (meant l.initial.self))
