@@ -279,14 +279,12 @@ fn run_trial(rt: &HostRuntime, depth: u16, room: u16, prices: u32) -> anyhow::Re
         index: 7,
         executed: 7
     }; usize::from(room)]?;
-    let Ok(tables) = Tables::check(
+    let tables = Tables::check(
         books.as_mut_slice(),
         buys.as_mut_slice(),
         sells.as_mut_slice(),
         usize::from(depth),
-    ) else {
-        return Err(anyhow!("tables refused"));
-    };
+    )?;
     let mut trial = Trial {
         heap,
         sinks: Twin::new(BookKeeper::new(tables), Tally::new(rows.as_mut_slice())),

@@ -12,17 +12,12 @@ pub struct Random {
 
 impl Random {
     /// A source with this seed, made odd.
+    #[tactic(auto, using(crate::proofs::Odd::odd_seed))]
     pub fn new(seed: u64) -> Random
         ensures odd { result.state % 2 ≡ 1 }
         ensures is { result.state ≡ seeded seed }
     {
-        if seed % 2 == 1 {
-            Random { state: seed }
-        } else {
-            Random {
-                state: seed.wrapping_add(1),
-            }
-        }
+        Random { state: seed | 1 }
     }
 
     fn next(&mut self) -> u64

@@ -1,11 +1,11 @@
 -- The list of the points of a part of a packet: it begins with the first point and goes on with the points behind it.
-use Rattle.std.proofs.Common.{◌≡◌, ℕ, suc, ◌+◌, ◌*◌, ◌/◌, ◌<◌, ◌≤◌, cond, nat_lt, List, [], ◌∷◌, map, length, drop, Some, None, slice_get, refl, sym, ap, ◌∙◌, arith, length-drop, add-one, zero-add, get_or, zero-mul, one-mul, add-mul, inl, inr}
+use Rattle.std.proofs.Common.{◌≡◌, ℕ, suc, ◌+◌, ◌*◌, ◌/◌, ◌<◌, ◌≤◌, nat_lt, List, [], ◌∷◌, map, length, drop, Some, slice_get, refl, sym, ap, ◌∙◌, arith, length-drop, add-one, zero-add, get_or, zero-mul, one-mul, add-mul, inl, inr}
 use Rattle.std.proofs.lemmas.Bool.{cases_lt, lt-ltb, le-ltb, cond-true, cond-false}
 use Rattle.std.proofs.lemmas.Option.{slice_get-get_or, slice_get_past}
 use Rattle.std.proofs.Math.Nat.{add-div_right, div-eq_of_lt}
 use Rattle.std.specs.List.{range_with_len}
 use Rattle.std.proofs.lemmas.List.FromFn.{length-map-range_with_len, get_or-map-range_with_len, fill_by_all}
-use Rattle.wire.specs.Points.{points, Shifts}
+use Rattle.wire.specs.Points.{points, point_in, Shifts}
 
 further : (k size : ℕ) → (1 + k) * size ≡ size + k * size
 further k size = add-mul 1 k size ∙ ap (λ (n : ℕ). n + k * size) (one-mul size)
@@ -37,7 +37,7 @@ module _ {P : Type 0} (size : ℕ) (at : List ℕ → ℕ → P) where
   unfolding points
   point_is ps i h = get_or-map-range_with_len (λ k. at ps (k * size)) 0 (length ps / size) i i (at ps 0) h (zero-add i)
 
-  pub points_at : (ps : List ℕ) (i : ℕ) → slice_get (points size at ps) i ≡ cond (nat_lt i (length ps / size)) (Some (at ps (i * size))) None
+  pub points_at : (ps : List ℕ) (i : ℕ) → slice_get (points size at ps) i ≡ point_in size at ps i
   points_at ps i =
       let n : ℕ = length ps / size in
       let e : length (points size at ps) ≡ n = points_count ps in

@@ -60,17 +60,20 @@ delta_at ps o = record {
   link = be32 ps (o + 16);
 }
 
--- the point of an index, if there is one
-abbrev pub full_point : List ℕ → ℕ → Option PricePoint
-full_point ps i = cond (nat_lt i (length ps / 12)) (Some (full_at ps (i * 12))) None
-
-abbrev pub delta_point : List ℕ → ℕ → Option DeltaPoint
-delta_point ps i = cond (nat_lt i (length ps / 28)) (Some (delta_at ps (i * 28))) None
-
 module _ {P : Type 0} (size : ℕ) (at : List ℕ → ℕ → P) where
   -- the points of a part of a packet, each of so many bytes: what `at` says at the offset of each
   unfoldable pub points : List ℕ → List P
   points ps = map (λ i. at ps (i * size)) (range_with_len 0 (length ps / size))
+
+  -- the point of an index, if there is one
+  abbrev pub point_in : List ℕ → ℕ → Option P
+  point_in ps i = cond (nat_lt i (length ps / size)) (Some (at ps (i * size))) None
+
+abbrev pub full_point : List ℕ → ℕ → Option PricePoint
+full_point = point_in 12 full_at
+
+abbrev pub delta_point : List ℕ → ℕ → Option DeltaPoint
+delta_point = point_in 28 delta_at
 
 -- what begins at an offset behind the first n bytes begins n bytes further in the whole
 abbrev pub Shifts : {P : Type 0} → (List ℕ → ℕ → P) → Type 0

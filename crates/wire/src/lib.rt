@@ -2,7 +2,6 @@
 #![tactic(auto)]
 
 mod fault;
-mod fields;
 mod message;
 mod point;
 mod points;
@@ -12,10 +11,7 @@ mod request;
 
 pub use fault::{ReadFault, RequestFault};
 pub use message::{Class, Message, Packet};
-pub use point::{
-    DeltaPoint, PricePoint, Reason, Side, UnknownLetter, delta_count, delta_point, full_count,
-    full_point,
-};
+pub use point::{DeltaPoint, PricePoint, Reason, Side, UnknownLetter};
 pub use points::{Point, Points};
 pub use price::billionths;
 pub use reader::read;

@@ -1,34 +1,18 @@
-//! The points of a full update and of a delta, read one by one from their part of the packet.
-ghost use Rattle.std.specs.Prelude.{◌≡◌, ◌+◌, ◌*◌, ◌/◌, ◌≤◌, length, Some, Ok};
+//! The points of a full update and of a delta: what their bytes say, and the letters of sides and reasons.
+ghost use Rattle.std.specs.Prelude.{◌≡◌, Some, Ok};
 ghost use Rattle.wire.specs.Prices.{price};
-ghost use Rattle.wire.specs.Points.{side_of, reason_of, side_in, reason_in, side_letter, reason_letter, full_at, delta_at, full_point, delta_point};
+ghost use Rattle.wire.specs.Points.{side_of, reason_of, side_in, reason_in, side_letter, reason_letter, full_at, delta_at};
 ghost use Rattle.wire.specs.Texts.{side_text, reason_text, unknown_letter_text};
 
-use crate::fields::{u16_at, u32_at};
 use crate::price::billionths;
 use std::error::Error;
 use std::fmt;
-
-/// The bytes of a point of a full update.
-pub(crate) const FULL_POINT: usize = 12;
-/// The bytes of a point of a delta.
-pub(crate) const DELTA_POINT: usize = 28;
 
 /// The side of a level.
 #[derive(Clone, Copy, PartialEq, Eq, Debug)]
 pub enum Side {
     Buy,
     Sell,
-}
-
-impl Side {
-    /// The letter by which a packet names the side.
-    pub fn letter(self) -> u8
-        ensures value { result ≡ side_letter self }
-        ensures back { side_of result ≡ self }
-    {
-        u8::from(self)
-    }
 }
 
 impl fmt::Display for Side {
@@ -76,16 +60,6 @@ pub enum Reason {
     Execution,
     /// Several events at once.
     Multiple,
-}
-
-impl Reason {
-    /// The letter by which a packet names the reason.
-    pub fn letter(self) -> u8
-        ensures value { result ≡ reason_letter self }
-        ensures back { reason_of result ≡ self }
-    {
-        u8::from(self)
-    }
 }
 
 impl fmt::Display for Reason {
@@ -172,6 +146,7 @@ pub struct DeltaPoint {
     pub link: u32,
 }
 
+// A packet that is read has a letter of a side, and of a reason; any other byte counts as the last of them.
 impl From<[u8; 12]> for PricePoint {
     ghost from_gives = { λ bytes point. point ≡ full_at bytes 0 };
 
@@ -181,7 +156,7 @@ impl From<[u8; 12]> for PricePoint {
             numerator: u32::from_be_bytes([p0, p1, p2, p3]),
             volume: u32::from_be_bytes([v0, v1, v2, v3]),
             orders: u16::from_be_bytes([o0, o1]),
-            side: read_side(side),
+            side: Side::try_from(side).unwrap_or(Side::Sell),
         }
     }
 }
@@ -203,8 +178,8 @@ impl From<[u8; 28]> for DeltaPoint {
             c1,
             c2,
             c3,
-            o0,
-            o1,
+            n0,
+            n1,
             side,
             reason,
             l0,
@@ -216,100 +191,14 @@ impl From<[u8; 28]> for DeltaPoint {
         let level = PricePoint {
             numerator: u32::from_be_bytes([p0, p1, p2, p3]),
             volume: u32::from_be_bytes([v0, v1, v2, v3]),
-            orders: u16::from_be_bytes([o0, o1]),
-            side: read_side(side),
+            orders: u16::from_be_bytes([n0, n1]),
+            side: Side::try_from(side).unwrap_or(Side::Sell),
         };
         DeltaPoint {
             level,
             changed: u32::from_be_bytes([c0, c1, c2, c3]),
-            reason: read_reason(reason),
+            reason: Reason::try_from(reason).unwrap_or(Reason::Multiple),
             link: u32::from_be_bytes([l0, l1, l2, l3]),
         }
-    }
-}
-
-fn read_side(letter: u8) -> Side
-    ensures { result ≡ side_of letter }
-{
-    match letter {
-        b'B' => Side::Buy,
-        _ => Side::Sell,
-    }
-}
-
-fn read_reason(letter: u8) -> Reason
-    ensures { result ≡ reason_of letter }
-{
-    match letter {
-        b'O' => Reason::Order,
-        b'C' => Reason::Cancel,
-        b'E' => Reason::Execution,
-        _ => Reason::Multiple,
-    }
-}
-
-fn full_at(points: &[u8], at: usize) -> PricePoint
-    requires { at + 12 ≤ length points.now }
-    ensures { result ≡ full_at points.now at }
-{
-    PricePoint {
-        numerator: u32_at(points, at),
-        volume: u32_at(points, at + 4),
-        orders: u16_at(points, at + 8),
-        side: read_side(points[at + 10]),
-    }
-}
-
-fn delta_at(points: &[u8], at: usize) -> DeltaPoint
-    requires { at + 28 ≤ length points.now }
-    ensures { result ≡ delta_at points.now at }
-{
-    let level = PricePoint {
-        numerator: u32_at(points, at),
-        volume: u32_at(points, at + 4),
-        orders: u16_at(points, at + 12),
-        side: read_side(points[at + 14]),
-    };
-    DeltaPoint {
-        level,
-        changed: u32_at(points, at + 8),
-        reason: read_reason(points[at + 15]),
-        link: u32_at(points, at + 16),
-    }
-}
-
-/// How many points a full update has.
-pub fn full_count(points: &[u8]) -> usize
-    ensures { result ≡ length points.now / 12 }
-{
-    points.len() / FULL_POINT
-}
-
-/// The point of a full update at an index, if there is one.
-pub fn full_point(points: &[u8], i: usize) -> Option<PricePoint>
-    ensures { result ≡ full_point points.now i }
-{
-    if i < full_count(points) {
-        Some(full_at(points, i * FULL_POINT))
-    } else {
-        None
-    }
-}
-
-/// How many points a delta has.
-pub fn delta_count(points: &[u8]) -> usize
-    ensures { result ≡ length points.now / 28 }
-{
-    points.len() / DELTA_POINT
-}
-
-/// The point of a delta at an index, if there is one.
-pub fn delta_point(points: &[u8], i: usize) -> Option<DeltaPoint>
-    ensures { result ≡ delta_point points.now i }
-{
-    if i < delta_count(points) {
-        Some(delta_at(points, i * DELTA_POINT))
-    } else {
-        None
     }
 }

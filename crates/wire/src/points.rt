@@ -3,7 +3,7 @@ ghost use Rattle.std.specs.Prelude.{◌≡◌, ℕ, ◌+◌, ◌*◌, ◌/◌, �
 ghost use Rattle.std.proofs.Common.{rules};
 ghost use Rattle.std.specs.Iterator.{YieldsFirst, item_count};
 ghost use Rattle.wire.specs.declared.point.PricePoint.{PricePoint};
-ghost use Rattle.wire.specs.Points.{full_at, delta_at, points, Shifts};
+ghost use Rattle.wire.specs.Points.{full_at, delta_at, points, point_in, Shifts};
 ghost use Rattle.wire.specs.Shifted.{full_shifts, delta_shifts};
 
 use crate::point::{DeltaPoint, PricePoint};
@@ -100,7 +100,7 @@ impl<'a, P: Point> Points<'a, P> {
     pub fn new(bytes: &'a [u8]) -> Points<'a, P>
         ensures all { result ≡ points P.BYTES P.at bytes.now }
         ensures count { length result ≡ length bytes.now / P.BYTES }
-        ensures each { (i : ℕ) → slice_get result i ≡ cond (nat_lt i (length bytes.now / P.BYTES)) (Some (P.at bytes.now (i * P.BYTES))) None }
+        ensures each { (i : ℕ) → slice_get result i ≡ point_in P.BYTES P.at bytes.now i }
     {
         Points {
             left: bytes,
