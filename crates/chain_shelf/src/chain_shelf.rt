@@ -54,6 +54,8 @@ impl ChainShelf {
         self.walk_to(number)
     }
 
+    // That `prev` comes before a number is asked of the four functions below, and not a fact of a type: such a value would hold the bytes lent, and put and take write them.
+
     // Whether the packet behind the one at `prev` has the number.
     fn stands_behind(&self, prev: u16, number: u32) -> bool
         requires { Before self.now.region.items number prev }

@@ -105,6 +105,7 @@ fn span_of(length: usize) -> u16
 }
 
 /// The price of a length: the records that such a packet takes, or 0 where there is no such packet.
+// Kept as a number, not an Option: it is the price as the trait has it.
 pub fn price_of(length: usize) -> u32
     ensures is { result ≡ (if right length then span 10 length else 0) }
     ensures least { PriceLaw }

@@ -33,6 +33,7 @@ impl Slot {
     }
 
     /// Moves the packet to the front of the buffer, and answers its length, if there is one.
+    // Kept as a slice with room for a packet, not an array of 1,500 bytes: the clause is of the whole buffer, which would have to be put together again.
     pub(crate) fn empty_into(&mut self, buffer: &mut [u8]) -> Option<usize>
         requires buffer { 1500 ≤ length buffer.old }
         requires packet { fits self.old }
