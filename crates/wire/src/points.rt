@@ -23,6 +23,7 @@ pub trait Point: Copy {
     ghost named: { Self → PricePoint };
 
     /// The first point, and the bytes behind it; none where there are fewer bytes than a point has.
+    // Kept in each impl: the length of an array is no associated constant.
     fn split_first(bytes: &[u8]) -> Option<(Self, &[u8])>
         ensures { MatchOption result (length bytes.now < BYTES) (λ p. (p.0 ≡ at bytes.now 0) × (p.1.now ≡ drop BYTES bytes.now) × (length p.1.now + BYTES ≡ length bytes.now)) };
 

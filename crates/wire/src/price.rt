@@ -3,6 +3,7 @@ ghost use Rattle.std.specs.Prelude.{◌≡◌, ℕ, ◌+◌, ◌-◌, ◌*◌, �
 ghost use Rattle.wire.specs.Prices.{price};
 
 // The powers of ten from 10^0 to 10^9.
+// Kept as a table: it is the project's rule that a price takes one look-up, by nine less scale.
 const POWERS: [u64; 10] = [
     1,
     10,

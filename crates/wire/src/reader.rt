@@ -51,7 +51,7 @@ impl TryFrom<u16> for Kind {
 }
 
 impl Kind {
-    // Whether the type may have this flag.
+    // Whether the type may have this flag. Kept as numbers, as a packet's flag is.
     fn allows(self, flag: u8) -> bool
         ensures { result ≡ allowed self flag }
     {

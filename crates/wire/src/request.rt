@@ -19,6 +19,7 @@ pub fn is_source(source: &[u8]) -> bool
     (1..=LONGEST_SOURCE).contains(&source.len()) && !source.contains(&0)
 }
 
+// Kept as three numbers: a struct of them would be taken apart at once, and `write_request` takes them one by one.
 // What stands before the source id: MsgSize, type 20, number 0, time, product, flag 1, one entry, link flag 0, begin and end.
 fn request_head(time: u32, begin: u32, end: u32) -> [u8; 24]
     ensures { result ≡ request_head time begin end }
