@@ -76,10 +76,7 @@ impl<S: Sink, H: Shelf> Channel<S, H> {
     pub fn last(&self) -> Option<u32>
         ensures { result ≡ last_of (state (S.Sink) (H.Shelf) self.now).opened }
     {
-        match self.open {
-            Some(_) => Some(self.handover.last()),
-            None => None,
-        }
+        self.open.map(|_| self.handover.last())
     }
 
     /// The sink, to be read.

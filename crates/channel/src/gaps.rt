@@ -28,18 +28,14 @@ impl<S: Sink, H: Shelf> Channel<S, H> {
     fn may_claim(&self, buffer: &[u8]) -> Result<(Open, u32), ChannelFault>
         ensures { told_gap self.now.handover.last result ≡ claim_verdict (state (S.Sink) (H.Shelf) self.now) buffer.now }
     {
-        let Some(open) = self.open else {
-            return Err(ChannelFault::Phase);
-        };
+        let open = self.open.ok_or(ChannelFault::Phase)?;
         if buffer.len() < REQUEST {
             return Err(ChannelFault::Short);
         }
         if open.out.is_some() {
             return Err(ChannelFault::Owed);
         }
-        let Some(least) = self.handover.gap() else {
-            return Err(ChannelFault::Whole);
-        };
+        let least = self.handover.gap().ok_or(ChannelFault::Whole)?;
         if open.claims >= MOST_CLAIMS {
             return Err(ChannelFault::Spent);
         }

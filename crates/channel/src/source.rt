@@ -1,13 +1,13 @@
 //! The source id of a channel's requests.
-ghost use Rattle.std.specs.Prelude.{◌≡◌, ◌≤◌, true, ◌++◌, length, take, drop, if◌then◌else◌, Some, None};
-ghost use Rattle.std.specs.Option.{option_map};
+ghost use Rattle.std.specs.Prelude.{◌≡◌, ◌≤◌, ◌++◌, length, take, drop, if◌then◌else◌, Ok, Err};
 ghost use Rattle.wire.specs.Request.{source_right};
+ghost use Rattle.handover.specs.declared.fault.ChannelFault.TheVariants.{Source};
+ghost use Rattle.handover.specs.Words.{answer};
 
+use handover::ChannelFault;
 use wire::is_source;
 
-/// The most bytes that a source id has.
-pub(crate) const LONGEST_SOURCE: usize = 20;
-
+// Kept as an array with its length: a channel puts `Open` back whole, and an `ArrayVec` can't be copied.
 /// A source id: 1 to 20 nonzero bytes, which name the channel's owner in its requests.
 #[derive(Clone, Copy)]
 pub struct SourceId {
@@ -25,22 +25,25 @@ fn write_front(buffer: &mut [u8], bytes: &[u8])
     buffer[0..bytes.len()].copy_from_slice(bytes);
 }
 
-impl SourceId {
-    /// The source id with the given bytes, or `None` where they are none.
-    pub(crate) fn new(source: &[u8]) -> Option<SourceId>
-        ensures { option_map (λ s. take s.len s.bytes) result ≡ (if source_right source.now then Some source.now else None) }
-    {
+impl TryFrom<&[u8]> for SourceId {
+    type Error = ChannelFault;
+
+    ghost try_from_gives = { λ source r. answer r (λ s. take s.len s.bytes) ≡ (if source_right source.now then Ok source.now else Err Source) };
+
+    fn try_from(source: &[u8]) -> Result<SourceId, ChannelFault> {
         if !is_source(source) {
-            return None;
+            return Err(ChannelFault::Source);
         }
-        let mut bytes = [0; LONGEST_SOURCE];
+        let mut bytes = [0; 20];
         write_front(&mut bytes, source);
-        Some(SourceId {
+        Ok(SourceId {
             bytes,
             len: source.len(),
         })
     }
+}
 
+impl SourceId {
     /// Its bytes.
     pub(crate) fn bytes(&self) -> &[u8]
         ensures { result.now ≡ take self.now.len self.now.bytes }

@@ -10,6 +10,7 @@ use handover::{ChannelFault, OfferFault, Taken};
 use shelf::Shelf;
 use sink::Sink;
 
+// Kept as steps beside the calls: what a call `stands` for follows from its answer and from where it leads, in one way for all of its returns.
 impl<S: Sink, H: Shelf> Channel<S, H> {
     pub(crate) fn make_step(
         &mut self,
@@ -26,9 +27,7 @@ impl<S: Sink, H: Shelf> Channel<S, H> {
         if first == 0 {
             return Err(ChannelFault::Zero);
         }
-        let Some(source) = SourceId::new(source) else {
-            return Err(ChannelFault::Source);
-        };
+        let source = SourceId::try_from(source)?;
         self.handover.begin(first);
         self.open = Some(Open {
             number,
@@ -43,9 +42,7 @@ impl<S: Sink, H: Shelf> Channel<S, H> {
         ensures answer { result ≡ restart_answer (state (S.Sink) (H.Shelf) self.old) number }
         ensures after { state (S.Sink) (H.Shelf) self.new ≡ restart_after S.Sink.step (state (S.Sink) (H.Shelf) self.old) number }
     {
-        let Some(open) = self.open else {
-            return Err(ChannelFault::Phase);
-        };
+        let open = self.open.ok_or(ChannelFault::Phase)?;
         if open.out.is_some() {
             return Err(ChannelFault::Owed);
         }
@@ -65,9 +62,9 @@ impl<S: Sink, H: Shelf> Channel<S, H> {
         ensures after { state (S.Sink) (H.Shelf) self.new ≡ offer_after S.Sink.step (state (S.Sink) (H.Shelf) self.old) packet.now scratch.old }
         ensures scratch { scratch.new ≡ offer_scratch S.Sink.step (state (S.Sink) (H.Shelf) self.old) packet.now scratch.old }
     {
-        match self.open {
-            Some(_) => self.handover.offer(packet, scratch),
-            None => Err(OfferFault::Channel(ChannelFault::Phase)),
-        }
+        let Some(_) = self.open else {
+            return Err(ChannelFault::Phase.into());
+        };
+        self.handover.offer(packet, scratch)
     }
 }

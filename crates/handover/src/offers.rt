@@ -52,6 +52,7 @@ fn check_refresh(last: u32, packet: &Packet<'_>) -> Result<(), OfferFault>
     Ok(())
 }
 
+// Kept as a slice of at least 1,500 bytes: what flows is stated over the whole scratch buffer, of which an array would be only the front, with the rest beside it.
 impl<S: Sink, H: Shelf> Handover<S, H> {
     // Hands over the next number: the packet that is held of it, or its loss.
     fn hand(&mut self, scratch: &mut [u8])
@@ -89,6 +90,7 @@ impl<S: Sink, H: Shelf> Handover<S, H> {
     }
 
     // Hands over every number up to the given one.
+    // Kept as a while: handing over moves last on, so the number of a range would stand beside it unused.
     fn hand_to(&mut self, end: u32, scratch: &mut [u8])
         requires { 1500 ≤ length scratch.old }
         ensures { flow (S.Sink) (H.Shelf) self.new scratch.new ≡ hands_to S.Sink.step end (flow (S.Sink) (H.Shelf) self.old scratch.old) }

@@ -72,6 +72,7 @@ impl<S: Sink, H: Shelf> Handover<S, H> {
     }
 
     /// How many of the numbers from begin to end are missing.
+    // Kept as a count in a for: the count of an iterator is a usize, and its cast back needs the bound again.
     pub fn missing(&self, begin: u32, end: u32) -> u32
         ensures { result ≡ missing self.now.last (H.Shelf.means self.now.shelf).held begin (end + 1 - begin) }
     {

@@ -5,8 +5,8 @@ use Rattle.channel.specs.Channels.{opened_with, state}
 use Rattle.channel.proofs.Offers.{offered}
 use Rattle.channel.proofs.channel.Channel.offer_step.Goals as goal
 
-pub returns-in-Some : goal.returns-in-Some
-returns-in-Some g c =
+pub returns : goal.returns
+returns g c =
     let a = c.args.self.now in
     let d = c.offer.new.self in
     let is = c.in-Some.is in

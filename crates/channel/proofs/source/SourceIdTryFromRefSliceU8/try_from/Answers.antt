@@ -1,7 +1,7 @@
-use Rattle.std.proofs.Common.{Some, sym, refl, ap, ◌∙◌}
+use Rattle.std.proofs.Common.{Ok, sym, refl, ap, ◌∙◌}
 use Rattle.std.proofs.lemmas.Bool.{cond-true}
 use Rattle.channel.proofs.Sources.{source_short, front_length, front_is}
-use Rattle.channel.proofs.source.SourceId.new.Goals as goal
+use Rattle.channel.proofs.source.SourceIdTryFromRefSliceU8.try_from.Goals as goal
 
 pub invariant_of-result : goal.invariant_of-result
 invariant_of-result c =
@@ -11,5 +11,5 @@ invariant_of-result c =
 
 pub returns : goal.returns
 returns c =
-    ap (λ x. Some x) (front_is c.args.source.now _ c.write_front.new.buffer c.write_front.ensures)
+    ap (λ x. Ok x) (front_is c.args.source.now _ c.write_front.new.buffer c.write_front.ensures)
     ∙ sym (cond-true _ _ _ (sym c.if-not-is_source.ensures))
