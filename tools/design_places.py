@@ -75,7 +75,9 @@ def functions(root):
         for match in head.finditer(text):
             indent = match.group(1)
             rest = text[match.start():]
-            end = re.search(rf"^{indent}\}}|;\n", rest, re.M)
+            body = re.search(r"\{\n|\{\}\n|;\n", rest)
+            has_body = body and body.group() != ";\n"
+            end = re.search(rf"^{indent}\}}" if has_body and body.group() == "{\n" else r";\n|\{\}\n", rest, re.M)
             whole = rest[: end.end()] if end else rest
             where = f"{name}:{text.count(chr(10), 0, match.start()) + 1}"
             yield where, match.group(4), whole
