@@ -85,9 +85,12 @@ fn show<S: Sink, H: Shelf>(rt: &HostRuntime, desk: &mut Desk<S, H>) -> anyhow::R
 fn put_down<S: Sink + Drop, H: Shelf + Drop>(desk: Desk<S, H>)
     requires { IsOwn (state (S.Sink) (H.Shelf) desk.channel) desk.hand }
 {
-    match desk.close() {
-        Ok(_channel) => {}
-        Err(_refused) => unreachable!(),
+    let (mut channel, hand) = desk.into_parts();
+    if let Some(claim) = hand {
+        match channel.settle(claim) {
+            Ok(_missing) => {}
+            Err(_refused) => unreachable!(),
+        }
     }
 }
 
