@@ -87,6 +87,7 @@ fn enter_level(levels: &mut Levels, level: Level) -> Result<(), AllocError> {
 /// A book as a keeper should have it.
 #[derive(Drop)]
 pub struct Book {
+    // Kept as a flag: it is held against the keeper's, which has one.
     pub whole: bool,
     pub touched: u32,
     pub sides: Sides,

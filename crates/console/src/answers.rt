@@ -51,6 +51,7 @@ impl Line for DeltaPoint {
 }
 
 // A line for each point of an update.
+// Kept as a text that is built: there are as many lines as points, and a Display of them would serve this one answer.
 fn point_lines<P: Line>(alloc: Global, scale: u8, update: &[u8]) -> Result<String, AllocError>
     ensures { IfOk result (λ t. string_bytes t ≡ point_lines (P.said scale) (points P.BYTES P.at update.now)) }
 {

@@ -110,7 +110,7 @@ impl From<ReadFault> for OfferFault {
     ghost from_gives = { λ f r. r ≡ Reader f };
 
     fn from(fault: ReadFault) -> OfferFault {
-        OfferFault::Reader(fault)
+        Self::Reader(fault)
     }
 }
 
@@ -118,7 +118,7 @@ impl From<PutFault> for OfferFault {
     ghost from_gives = { λ f r. r ≡ Shelf f };
 
     fn from(fault: PutFault) -> OfferFault {
-        OfferFault::Shelf(fault)
+        Self::Shelf(fault)
     }
 }
 
@@ -126,7 +126,7 @@ impl From<ChannelFault> for OfferFault {
     ghost from_gives = { λ f r. r ≡ Channel f };
 
     fn from(fault: ChannelFault) -> OfferFault {
-        OfferFault::Channel(fault)
+        Self::Channel(fault)
     }
 }
 

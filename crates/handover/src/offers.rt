@@ -22,6 +22,7 @@ const WINDOW: u64 = 75_000;
 const WIDEST: u64 = 1_000;
 
 /// The flag of a refresh, and the link flag of one that is whole in its packet.
+// Kept as numbers, here and where a flag is 5 or 6: a packet has them as numbers, since an enum would ask more of those who build one.
 const WHOLE_REFRESH: u8 = 6;
 
 const ONE_PACKET: u8 = 1;

@@ -14,7 +14,7 @@ use Rattle.channel.specs.declared.claim.Claim.{Claim}
 use Rattle.channel.specs.States.{State}
 use Rattle.channel.specs.Channels.{state}
 use Rattle.channel.specs.Offers.{offer_answer, offer_scratch}
-use Rattle.channel.specs.Calls.{make_answer, claim_answer, claim_buffer, settle_answer, settle_after, restart_answer}
+use Rattle.channel.specs.Calls.{make_answer, claim_answer, claim_buffer, settle_answer, restart_answer}
 use Rattle.channel.specs.Kept.{Promise}
 use Rattle.channel.specs.Follows.{Follows, Ask, make, offer, claim, settle, restart, noted, taken, after}
 use Rattle.operator.specs.declared.action.Action.{Action}
@@ -58,9 +58,9 @@ claim_reply d = cond (is_some d.hand) (Err Owed) (answer (claim_answer d.channel
 abbrev pub settle_reply : {M : Type 0} → Desk M → Option (Result ℕ ChannelFault)
 settle_reply d = option_map (λ k. results.result_map_both (λ n. n) (λ e. e.0) (settle_answer d.channel k)) d.hand
 
--- the answer to a closing of the desk: the channel with the claim in hand settled, or the refusal and the desk as it was
-abbrev pub close_answer : {M : Type 0} → Desk M → Result (State M) (ChannelFault × Desk M)
-close_answer d = either d.hand (Ok d.channel) (λ k. results.result_map_both (λ n. settle_after d.channel k) (λ e. (e.0, d)) (settle_answer d.channel k))
+-- the answer to a closing of the desk: the claim in hand is settled, or given back with the refusal
+abbrev pub close_answer : {M : Type 0} → Desk M → Result (Unit {0}) (ChannelFault × Claim)
+close_answer d = either d.hand (Ok tt) (λ k. results.result_map_both (λ n. tt) (λ e. e) (settle_answer d.channel k))
 
 module _ {M : Type 0} (step : Event → M → M) where
   -- the buffer after a call

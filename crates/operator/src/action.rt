@@ -53,5 +53,6 @@ pub enum Reply {
     Settled(Result<u32, ChannelFault>),
     Restarted(Result<(), ChannelFault>),
     /// No claim is in hand, so none was settled.
+    // Kept as a reply of its own: an Option in `Settled` would say a call that was not made by a settlement.
     NoClaim,
 }

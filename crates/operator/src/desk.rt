@@ -134,21 +134,21 @@ impl<S: Sink, H: Shelf> Desk<S, H> {
         }
     }
 
-    /// Settles the claim in hand and gives the channel back, or the refusal and the desk as it was. A claim in hand that could be settled is.
-    pub fn close(self) -> Result<Channel<S, H>, (ChannelFault, Desk<S, H>)>
-        ensures answer { result_map_both (state (S.Sink) (H.Shelf)) (λ e. (e.0, desk (S.Sink) (H.Shelf) e.1 [])) result ≡ close_answer (desk (S.Sink) (H.Shelf) self []) }
+    /// Settles the claim in hand, if one is, and lets the channel go; or gives the claim back with the refusal. A claim in hand that could be settled is.
+    pub fn close(self) -> Result<(), (ChannelFault, Claim)>
+    where
+        S: Drop,
+        H: Drop,
+        ensures answer { result ≡ close_answer (desk (S.Sink) (H.Shelf) self []) }
         ensures own { IsOwn (state (S.Sink) (H.Shelf) self.channel) self.hand → is_ok result ≡ true }
     {
         let Desk { mut channel, hand } = self;
         let Some(claim) = hand else {
-            return Ok(channel);
+            return Ok(());
         };
         match channel.settle(claim) {
-            Ok(_missing) => Ok(channel),
-            Err((fault, claim)) => {
-                let hand = Some(claim);
-                Err((fault, Desk { channel, hand }))
-            }
+            Ok(_missing) => Ok(()),
+            Err(refused) => Err(refused),
         }
     }
 }

@@ -15,6 +15,7 @@ use shelf::{Quota, Shelf};
 use sink::Twin;
 use std::alloc::{AllocError, Global};
 use std::env;
+use std::error::Error;
 use std::io::{BufRead, BufReader, Split};
 use tally::{Row, Tally};
 
@@ -83,93 +84,94 @@ impl<'a, 'b, 'c, 'd, H: Shelf> Answers for Desk<Board<'a, 'b, 'c, 'd>, H> {
     }
 }
 
-// Answers lines until a setup, which is given, or the end.
-fn serve<T: Answers>(
-    rt: &HostRuntime,
-    lines: &mut Split<BufReader<Source>>,
-    served: &mut T,
-) -> anyhow::Result<Option<Setup>>
-    requires { T.keeps served.old }
-    ensures { T.keeps served.new }
-{
-    let alloc = rt.alloc();
-    let mut scratch = [0; SCRATCH];
-    for line in lines.by_ref() {
-        match parse(alloc, line?.as_slice()) {
-            Ok(None) => {}
-            Ok(Some(Command::Setup(setup))) => return Ok(Some(setup)),
-            Ok(Some(command)) => rt.print(served.answer(alloc, &mut scratch, command)?)?,
-            Err(ParseError::Unreadable) => rt.print("unreadable\n")?,
-            Err(fault) => return Err(anyhow::Error::from(fault)),
-        }
-    }
-    Ok(None)
+// A script as it is read: what is left of its lines, and the runtime that its answers go to.
+#[derive(Drop)]
+struct Script<'a> {
+    rt: &'a HostRuntime,
+    lines: Split<BufReader<Source>>,
 }
 
-// A channel over tables of its own.
-fn serve_tables(
-    rt: &HostRuntime,
-    lines: &mut Split<BufReader<Source>>,
-    setup: Setup,
-    shelf: AnyShelf,
-) -> anyhow::Result<Option<Setup>> {
-    let alloc = rt.alloc();
-    let sizes = table_sizes(setup);
-    let mut books = vec![in alloc; Book::UNKNOWN; sizes.books]?;
-    let mut buys = vec![in alloc; NO_LEVEL; sizes.levels]?;
-    let mut sells = vec![in alloc; NO_LEVEL; sizes.levels]?;
-    let mut rows = vec![in alloc; NO_ROW; sizes.rows]?;
-    let tables = Tables::check(
-        books.as_mut_slice(),
-        buys.as_mut_slice(),
-        sells.as_mut_slice(),
-        sizes.depth,
-    );
-    match tables {
-        Ok(tables) => {
-            let board = Twin::new(BookKeeper::new(tables), Tally::new(rows.as_mut_slice()));
-            let channel = Channel::new(board, Quota::new(shelf, setup.limit));
-            rt.print("ready\n")?;
-            let mut desk = Desk::new(channel, None);
-            let end = serve(rt, lines, &mut desk);
-            match desk.close() {
-                Ok(_channel) => end,
-                Err(_refused) => unreachable!(),
+impl Script<'_> {
+    // Answers lines until a setup, which is given, or the end.
+    fn serve<T: Answers>(&mut self, served: &mut T) -> anyhow::Result<Option<Setup>>
+        requires { T.keeps served.old }
+        ensures { T.keeps served.new }
+    {
+        let rt = self.rt;
+        let alloc = rt.alloc();
+        let mut scratch = [0; SCRATCH];
+        for line in self.lines.by_ref() {
+            match parse(alloc, line?.as_slice()) {
+                Ok(None) => {}
+                Ok(Some(Command::Setup(setup))) => return Ok(Some(setup)),
+                Ok(Some(command)) => rt.print(served.answer(alloc, &mut scratch, command)?)?,
+                Err(ParseError::Unreadable) => rt.print("unreadable\n")?,
+                Err(fault) => return Err(anyhow::Error::from(fault)),
             }
         }
-        Err(fault) => {
-            println!(rt; "{fault}")?;
-            serve(rt, lines, &mut Alone)
+        Ok(None)
+    }
+
+    // A refusal of a setup, and what follows it without a channel.
+    fn refuse(&mut self, fault: impl Error) -> anyhow::Result<Option<Setup>> {
+        println!(self.rt; "{fault}")?;
+        self.serve(&mut Alone)
+    }
+
+    // A channel over tables of its own.
+    fn serve_tables(&mut self, setup: Setup, shelf: AnyShelf) -> anyhow::Result<Option<Setup>> {
+        let alloc = self.rt.alloc();
+        let sizes = table_sizes(setup);
+        let mut books = vec![in alloc; Book::UNKNOWN; sizes.books]?;
+        let mut buys = vec![in alloc; NO_LEVEL; sizes.levels]?;
+        let mut sells = vec![in alloc; NO_LEVEL; sizes.levels]?;
+        let mut rows = vec![in alloc; NO_ROW; sizes.rows]?;
+        let tables = Tables::check(
+            books.as_mut_slice(),
+            buys.as_mut_slice(),
+            sells.as_mut_slice(),
+            sizes.depth,
+        );
+        match tables {
+            Ok(tables) => {
+                let board = Twin::new(BookKeeper::new(tables), Tally::new(rows.as_mut_slice()));
+                let channel = Channel::new(board, Quota::new(shelf, setup.limit));
+                self.rt.print("ready\n")?;
+                let mut desk = Desk::new(channel, None);
+                let end = self.serve(&mut desk);
+                match desk.close() {
+                    Ok(()) => end,
+                    Err(_refused) => unreachable!(),
+                }
+            }
+            Err(fault) => self.refuse(fault),
         }
+    }
+
+    // What a setup asks for, until the next.
+    fn serve_setup(&mut self, setup: Setup) -> anyhow::Result<Option<Setup>> {
+        match open_shelf(self.rt.alloc(), setup.shelf)? {
+            Ok(shelf) => self.serve_tables(setup, shelf),
+            Err(fault) => self.refuse(fault),
+        }
+    }
+
+    fn run(&mut self) -> anyhow::Result<()> {
+        let mut next = self.serve(&mut Alone)?;
+        // Kept with a bound: each setup is a line of the input, which has no end that a proof knows.
+        for _ in 0..u64::MAX {
+            let Some(setup) = next else {
+                break;
+            };
+            next = self.serve_setup(setup)?;
+        }
+        Ok(())
     }
 }
 
-// What a setup asks for, until the next.
-fn serve_setup(
-    rt: &HostRuntime,
-    lines: &mut Split<BufReader<Source>>,
-    setup: Setup,
-) -> anyhow::Result<Option<Setup>> {
-    match open_shelf(rt.alloc(), setup.shelf)? {
-        Ok(shelf) => serve_tables(rt, lines, setup, shelf),
-        Err(fault) => {
-            println!(rt; "{fault}")?;
-            serve(rt, lines, &mut Alone)
-        }
-    }
-}
-
-fn run_script(rt: &HostRuntime, script: BufReader<Source>) -> anyhow::Result<()> {
-    let mut lines = script.split(rt.alloc(), b'\n');
-    let mut next = serve(rt, &mut lines, &mut Alone)?;
-    // Kept with a bound: each setup is a line of the input, which has no end that a proof knows.
-    for _ in 0..u64::MAX {
-        let Some(setup) = next else {
-            break;
-        };
-        next = serve_setup(rt, &mut lines, setup)?;
-    }
-    Ok(())
+fn run_script(rt: &HostRuntime, source: Source) -> anyhow::Result<()> {
+    let lines = BufReader::new(rt.alloc(), source)?.split(rt.alloc(), b'\n');
+    Script { rt, lines }.run()
 }
 
 fn run(rt: &HostRuntime) -> anyhow::Result<()> {
@@ -178,7 +180,7 @@ fn run(rt: &HostRuntime) -> anyhow::Result<()> {
             rt.print(HELP)?;
             Ok(())
         }
-        name => run_script(rt, BufReader::new(rt.alloc(), open_script(rt, name)?)?),
+        name => run_script(rt, open_script(rt, name)?),
     }
 }
 

@@ -81,16 +81,6 @@ fn show<S: Sink, H: Shelf>(rt: &HostRuntime, desk: &mut Desk<S, H>) -> anyhow::R
     Ok(())
 }
 
-// Closes a desk: the claim in hand, which is the one that is out, is settled.
-fn put_down<S: Sink + Drop, H: Shelf + Drop>(desk: Desk<S, H>)
-    requires { IsOwn (state (S.Sink) (H.Shelf) desk.channel) desk.hand }
-{
-    match desk.close() {
-        Ok(_channel) => {}
-        Err(_refused) => unreachable!(),
-    }
-}
-
 fn main(rt: HostRuntime) -> anyhow::Result<()> {
     let mut rows = [Row {
         index: 0,
@@ -99,6 +89,8 @@ fn main(rt: HostRuntime) -> anyhow::Result<()> {
     let channel = Channel::new(Tally::new(&mut rows), SlotShelf::new());
     let mut desk = Desk::new(channel, None);
     let end = show(&rt, &mut desk);
-    put_down(desk);
-    end
+    match desk.close() {
+        Ok(()) => end,
+        Err(_refused) => unreachable!(),
+    }
 }

@@ -1,5 +1,5 @@
 -- The text of the answers to a channel's calls, each line ended.
-use Rattle.std.specs.Prelude.{ℕ, List, ◌++◌, take, Some, None, Ok, Err, codes, decimal, Option}
+use Rattle.std.specs.Prelude.{ℕ, List, ◌++◌, take, Ok, Err, codes, decimal, Option}
 use Rattle.std.specs.Option.{unwrap_or}
 use Rattle.handover.specs.declared.handover.Taken.{Taken}
 use Rattle.handover.specs.Faults.{call_fault_text, offer_fault_text}

@@ -58,6 +58,7 @@ fn level_text(alloc: Global, side: Side, level: Option<Level>) -> Result<String,
 
 // A line for each of the first levels of a side of a book.
 // Kept as a walk over the places: the keeper gives a level by its place, and each place up to the count has a line.
+// Kept as a text that is built: a Display would hold the keeper, the index, the side and the count, for this one text.
 fn side_levels(
     alloc: Global,
     keeper: &BookKeeper<'_, '_, '_>,

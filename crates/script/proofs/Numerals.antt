@@ -1,13 +1,13 @@
 -- What the library's parse says of a word, in the words of `number_in`.
-use Rattle.std.proofs.Common.{◌≡◌, ℕ, ◌^◌, ◌<◌, Bool, true, false, ◌&&◌, eqb, ltb, List, [], ◌∷◌, length, get_or, Some, None, Ok, Err, IsUtf8, Decides, Result, sym, ap, ◌∙◌, ⊎_elim, arith}
+use Rattle.std.proofs.Common.{◌≡◌, ℕ, ◌^◌, ◌<◌, Bool, true, false, ◌&&◌, ltb, List, [], ◌∷◌, length, get_or, Some, None, Ok, Err, IsUtf8, Decides, Result, sym, ap, ◌∙◌, ⊎_elim, arith}
 use Rattle.std.specs.Str.Parse.{digits_value, ParsesUnsigned}
 use Rattle.std.specs.Result.{OkIff, result_ok}
 use Rattle.std.specs.Str.{all_ascii_digits}
-use Rattle.std.proofs.lemmas.Bool.{cond-true, cond-false, cases_Bool, and_parts, ltb-true, eqb-true}
+use Rattle.std.proofs.lemmas.Bool.{cond-true, cond-false, cases_Bool}
 use Rattle.std.proofs.lemmas.Bool.Decides.{Decides-and, Decides-ltb, nat_tests}
 use Rattle.std.proofs.lemmas.Str.{IsUtf8-from_ascii}
 use Rattle.std.proofs.lemmas.Fmt.{IsAscii-from_digits}
-use Rattle.std.proofs.lemmas.Str.Parse.{IsNumeralModel, numerals_by_value, tells_all_ascii_digits, not_in_digits, parse_plain}
+use Rattle.std.proofs.lemmas.Str.Parse.{IsNumeralModel, numerals_by_value, tells_all_ascii_digits, parse_plain}
 use Rattle.script.specs.Words.{begins}
 use Rattle.script.specs.Numbers.{number_in}
 
@@ -32,11 +32,6 @@ number_none k w n =
 pub number_parsed : {E : Type 0} (k : ℕ) (w : List ℕ) (r : Result ℕ E) → OkIff r ((all_ascii_digits w ≡ true) × (0 < length w) × (digits_value 10 w < 2 ^ k)) (digits_value 10 w) → result_ok r ≡ number_in k w
 number_parsed k w (Ok x) h = ap Some h.1 ∙ sym (number_some k w h.0.0 h.0.1 h.0.2)
 number_parsed k w (Err e) h = sym (number_none k w (λ a b c. h (a, b, c)))
-
-pub number_plus : (k : ℕ) (w : List ℕ) → begins 43 w ≡ true → None ≡ number_in k w
-number_plus k w e =
-    let p = and_parts (ltb 0 (length w)) (eqb (get_or w 0 0) 43) e in
-    sym (number_none k w (λ a b c. not_in_digits own w 43 a (λ i. omega arith) 0 (ltb-true 0 (length w) p.0) (eqb-true (get_or w 0 0) 43 p.1)))
 
 pub no_plus : (w : List ℕ) → begins 43 w ≡ false → get_or w 0 0 ≡ 43 → ⊥
 no_plus [] e h = omega arith

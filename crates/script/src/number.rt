@@ -6,6 +6,7 @@ ghost use Rattle.script.specs.Words.{begins};
 use std::str::from_utf8;
 
 // The number that a word writes which has no sign.
+// Kept as a match: with `.ok()?` the proof loses what `from_utf8` said, and two goals stay open.
 fn plain_number(word: &[u8]) -> Option<u32>
     requires { begins 43 word.now ≡ false }
     ensures { result ≡ number_in 32 word.now }

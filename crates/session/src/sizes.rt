@@ -25,6 +25,7 @@ fn region_bytes(records: u32) -> usize
 }
 
 /// The shelf of a setup, or the refusal of a region that is too small or too large.
+// Kept as a result in a result: a refusal is answered, and where memory runs out the program ends.
 pub fn open_shelf(
     alloc: Global,
     kind: ShelfKind,
