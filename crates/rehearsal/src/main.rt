@@ -174,6 +174,7 @@ fn run_script(rt: &HostRuntime, source: Source) -> anyhow::Result<()> {
     Script { rt, lines }.run()
 }
 
+// Kept in each of the two programs: the help and what is run are its own, and a function of both would be as long.
 fn run(rt: &HostRuntime) -> anyhow::Result<()> {
     match env::args(rt)?.nth(1) {
         Some(word) if word.as_str() == "--help" => {
