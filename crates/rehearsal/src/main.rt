@@ -1,4 +1,4 @@
-//! The handler's console: reads a script and prints the answer to each line.
+//! The rehearsal: reads a script of every command and prints the answer to each line.
 #![tactic(auto)]
 
 ghost use Rattle.channel.specs.Channels.{state};
