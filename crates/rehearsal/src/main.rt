@@ -105,7 +105,7 @@ impl Script<'_> {
                 Ok(None) => {}
                 Ok(Some(Command::Setup(setup))) => return Ok(Some(setup)),
                 Ok(Some(command)) => rt.print(served.answer(alloc, &mut scratch, command)?)?,
-                Err(ParseError::Unreadable) => rt.print("unreadable\n")?,
+                Err(fault) if fault == ParseError::Unreadable => println!(rt; "{fault}")?,
                 Err(fault) => return Err(anyhow::Error::from(fault)),
             }
         }

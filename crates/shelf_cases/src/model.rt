@@ -66,6 +66,7 @@ impl Model {
         self.held.keys().copied().find(|held| *held > number)
     }
 
+    /// The answer to a put, which is compared with a shelf's; it fails only where memory runs out.
     pub fn put(&mut self, number: u32, packet: &[u8]) -> Result<Result<(), PutFault>, AllocError> {
         let cost = self.price(packet.len());
         if cost == 0 {
@@ -80,6 +81,15 @@ impl Model {
         self.held
             .insert(number, Vec::from_slice(self.heap, packet)?)?;
         Ok(Ok(()))
+    }
+
+    /// The number of a refusal, as the rules have it.
+    pub fn number(fault: PutFault) -> u8 {
+        match fault {
+            PutFault::Length => 2,
+            PutFault::Held => 11,
+            PutFault::Full => 13,
+        }
     }
 
     pub fn take(&mut self, number: u32) -> Option<Vec<u8>> {

@@ -88,6 +88,7 @@ impl<S: Shelf> Trial<S> {
         let told = self.shelf.put(number, packet.as_slice());
         ensure!(told == self.model.put(number, packet.as_slice())?, "put");
         if let Err(fault) = told {
+            ensure!(fault.number() == Model::number(fault), "put's refusal");
             self.met.insert(Met::from(fault))?;
         }
         Ok(())
@@ -102,6 +103,7 @@ impl<S: Shelf> Trial<S> {
         if room < 1500 {
             self.met.insert(Met::Short)?;
             ensure!(told == Err(TakeFault::Short), "take refuses");
+            ensure!(TakeFault::Short.number() == 1, "take's refusal");
             ensure!(buffer == before, "take's buffer, refused");
             return Ok(());
         }
