@@ -62,9 +62,7 @@ impl<S: Sink, H: Shelf> Channel<S, H> {
         ensures after { state (S.Sink) (H.Shelf) self.new ≡ offer_after S.Sink.step (state (S.Sink) (H.Shelf) self.old) packet.now scratch.old }
         ensures scratch { scratch.new ≡ offer_scratch S.Sink.step (state (S.Sink) (H.Shelf) self.old) packet.now scratch.old }
     {
-        let Some(_) = self.open else {
-            return Err(ChannelFault::Phase.into());
-        };
+        self.open.ok_or(ChannelFault::Phase)?;
         self.handover.offer(packet, scratch)
     }
 }

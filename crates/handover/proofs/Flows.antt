@@ -1,5 +1,5 @@
 -- Handing on turn by turn: what a loop has still to do leads where all would.
-use Rattle.std.proofs.Common.{◌≡◌, ℕ, zero, suc, ◌+◌, ◌-◌, ◌^◌, ◌<◌, ◌≤◌, Bool, true, false, cond, not, ◌&&◌, eqb, ltb, leb, List, [], ◌∷◌, length, take, drop, Some, None, Ok, Err, Option, sym, refl, ap, ◌∙◌, subst, ⊎_elim, arith, MatchOption}
+use Rattle.std.proofs.Common.{◌≡◌, ℕ, zero, suc, ◌+◌, ◌-◌, ◌^◌, ◌<◌, ◌≤◌, Bool, true, false, cond, eqb, leb, List, [], ◌∷◌, length, take, drop, Some, None, Ok, Err, Option, sym, refl, ap, ◌∙◌, subst, ⊎_elim, arith, MatchOption}
 use Rattle.std.proofs.lemmas.Bool.{cond-true, cond-false, cases_Bool, le-leb}
 use Rattle.std.proofs.lemmas.Bool.Decides.{nat_tests}
 use Rattle.std.proofs.lemmas.List.{take_at, length-append, length-drop}
@@ -12,7 +12,7 @@ use Rattle.shelf.specs.Store.{Packets, Store, lookup, has, above, insert, remove
 use Rattle.shelf.proofs.Kept.{held_is_a_map}
 use Rattle.sink.specs.Events.{Event}
 use Rattle.order.specs.Machine.{brings, range, read_content, turn}
-use Rattle.handover.specs.Flows.{Flow, data_as, message_of, without, with_packet, gap, one_missing, missing, hand, hands, hands_to, handing, handed_on}
+use Rattle.handover.specs.Flows.{Flow, data_as, message_of, without, with_packet, gap, hand, hands, hands_to, handing, handed_on}
 use Rattle.order.proofs.Plain.{never, ok_same}
 
 pub length_removed : (h : Packets) (k : ℕ) → has h k ≡ true → suc (length (remove k h)) ≡ length h
@@ -75,28 +75,6 @@ gap_within l h m up e = go (has h (l + 1)) e
         let x = subst (λ o. MatchOption o ((j : ℕ) → has h j ≡ true → j ≤ l) (λ m. (l < m) × (has h m ≡ true) × ((j : ℕ) → l < j → has h j ≡ true → m ≤ j))) (sym e)
         ((held_is_a_map h up).least l) in
         (x.0, held_small 0 m h up x.1)
-
--- a settlement's count: one number more, and the end
-pub missing_more : (l : ℕ) (h : Packets) (n e : ℕ) → n ≤ e → missing l h n (e + 1 - n) ≡ one_missing l h n + missing l h (n + 1) (e + 1 - (n + 1))
-missing_more l h n e le = let a : e + 1 - n ≡ suc (e + 1 - (n + 1)) = omega arith in ap (λ k. missing l h n k) a
-
--- a number that counts, and one that does not
-pub counts : (l : ℕ) (h : Packets) (n : ℕ) → ltb l n && not (has h n) ≡ true → one_missing l h n ≡ 1
-counts l h n t = cond-true (ltb l n && not (has h n)) 1 0 t
-
-pub counts_not : (l : ℕ) (h : Packets) (n : ℕ) → ltb l n && not (has h n) ≡ false → one_missing l h n ≡ 0
-counts_not l h n t = cond-false (ltb l n && not (has h n)) 1 0 t
-
--- a number is counted only above last, so number 0 never is
-pub counts_above : (l : ℕ) (h : Packets) (n : ℕ) → ltb l n && not (has h n) ≡ true → l < n
-counts_above l h n t = grind (arith, nat_tests)
-
-pub missing_step : (l : ℕ) (h : Packets) (n e count more d : ℕ) → n ≤ e → one_missing l h n ≡ d → more ≡ count + d
-    → more + missing l h (n + 1) (e + 1 - (n + 1)) ≡ count + missing l h n (e + 1 - n)
-missing_step l h n e count more d le t m = let a = missing_more l h n e le in omega arith
-
-pub missing_end : (l : ℕ) (h : Packets) (n e : ℕ) → e < n → missing l h n (e + 1 - n) ≡ 0
-missing_end l h n e lt = let a : e + 1 - n ≡ 0 = omega arith in ap (λ k. missing l h n k) a
 
 -- a packet that a shelf took is on it
 pub put_kept : (s : Store) (k : ℕ) (p : List ℕ) (u : Unit {0}) → put_answer s k p ≡ Ok u → put_after s k p ≡ with_packet k p s

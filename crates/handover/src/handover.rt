@@ -1,5 +1,6 @@
 //! What is handed over, and the answer to it.
 
+// Kept without a Model: what flows takes the meanings of the sink and the shelf, which would bound the type's parameters, and so narrow it.
 /// The last number that was handed over, the shelf of packets that came early, and the sink that takes events.
 #[derive(Drop)]
 pub struct Handover<S, H> {

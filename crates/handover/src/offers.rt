@@ -22,7 +22,7 @@ const WINDOW: u64 = 75_000;
 const WIDEST: u64 = 1_000;
 
 /// The flag of a refresh, and the link flag of one that is whole in its packet.
-// Kept as numbers, here and where a flag is 5 or 6: a packet has them as numbers, since an enum would ask more of those who build one.
+// Kept as numbers: a packet has them as numbers, since an enum would ask more of those who build one.
 const WHOLE_REFRESH: u8 = 6;
 
 const ONE_PACKET: u8 = 1;
@@ -53,7 +53,8 @@ fn check_refresh(last: u32, packet: &Packet<'_>) -> Result<(), OfferFault>
     Ok(())
 }
 
-// Kept as a slice of at least 1,500 bytes: what flows is stated over the whole scratch buffer, of which an array would be only the front, with the rest beside it.
+// Kept with the scratch buffer as a parameter: a struct that holds it and the handover by `&mut` isn't covered, since a place would be written through one field
+// while what lies behind another is lent. Kept as a slice of at least 1,500 bytes: an array would be only the front of it, with the rest beside it.
 impl<S: Sink, H: Shelf> Handover<S, H> {
     // Hands over the next number: the packet that is held of it, or its loss.
     fn hand(&mut self, scratch: &mut [u8])
@@ -162,7 +163,7 @@ impl<S: Sink, H: Shelf> Handover<S, H> {
         match packet.message {
             Message::Reset { next } => Err(ChannelFault::Reset { next }.into()),
             Message::Unavailable { begin, end } => self.offer_range(begin, end, scratch),
-            Message::Full { .. } if matches!(packet.flag, 5 | 6) => {
+            Message::Full { .. } if packet.class() == Class::Refresh => {
                 check_refresh(self.last, packet)?;
                 self.sink.refresh(packet.number, packet.message);
                 Ok(())

@@ -72,16 +72,11 @@ impl<S: Sink, H: Shelf> Handover<S, H> {
     }
 
     /// How many of the numbers from begin to end are missing.
-    // Kept as a count in a for: the count of an iterator is a usize, and its cast back needs the bound again.
+    // The count fits 32 bits: number 0 is never missing.
     pub fn missing(&self, begin: u32, end: u32) -> u32
         ensures { result ≡ missing self.now.last (H.Shelf.means self.now.shelf).held begin (end + 1 - begin) }
     {
-        let mut count = 0;
-        for number in begin..=end {
-            if self.lacks(number) {
-                count += 1;
-            }
-        }
-        count
+        let numbers = begin..=end;
+        numbers.filter(|number| self.lacks(*number)).count() as u32
     }
 }

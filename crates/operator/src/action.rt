@@ -22,6 +22,7 @@ pub enum Action {
     },
 }
 
+// Kept beside `Claim`, which can't be copied.
 /// What a claim in hand asks for. Its request stands in front of the buffer until the next action.
 #[derive(Clone, Copy, PartialEq, Eq, Debug)]
 pub struct Asked {
@@ -53,6 +54,6 @@ pub enum Reply {
     Settled(Result<u32, ChannelFault>),
     Restarted(Result<(), ChannelFault>),
     /// No claim is in hand, so none was settled.
-    // Kept as a reply of its own: an Option in `Settled` would say a call that was not made by a settlement.
+    // Kept as a reply of its own: no call was made, so it is no settlement.
     NoClaim,
 }

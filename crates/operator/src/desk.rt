@@ -13,7 +13,8 @@ use shelf::Shelf;
 use sink::Sink;
 
 // Puts a reply in its place of a table, if the table has it.
-// Kept with the place's number: there may be more actions than places, so the two aren't zipped, and what a slice holds after `get_mut` isn't known to a proof.
+// Kept with the place's number: there may be more actions than places, so the two aren't zipped; and after `get_mut`, or an `iter_mut` that gives the next place
+// by `next`, a proof knows the table's length and not its replies.
 fn place(replies: &mut [Reply], i: usize, reply: Reply)
     ensures { replies.new ≡ (if nat_lt i (length replies.old) then slice_set replies.old i reply else replies.old) }
 {
@@ -22,6 +23,8 @@ fn place(replies: &mut [Reply], i: usize, reply: Reply)
     }
 }
 
+// Kept without a Model, as a channel is: what a desk has takes the meanings of the sink and the shelf, which would bound the type's parameters, and so narrow it.
+// Kept with `IsOwn` in clauses: as an invariant of the type, `new` would ask more, for any channel and any claim make a desk.
 /// A channel and the claim in hand. A claim can't be let go, so neither can a desk: it is closed or taken apart.
 pub struct Desk<S, H> {
     channel: Channel<S, H>,
@@ -146,9 +149,6 @@ impl<S: Sink, H: Shelf> Desk<S, H> {
         let Some(claim) = hand else {
             return Ok(());
         };
-        match channel.settle(claim) {
-            Ok(_missing) => Ok(()),
-            Err(refused) => Err(refused),
-        }
+        channel.settle(claim).map(|_| ())
     }
 }

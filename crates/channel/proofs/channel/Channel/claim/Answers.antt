@@ -4,12 +4,7 @@ use Rattle.channel.specs.Follows.{claim}
 use Rattle.channel.proofs.Runs.{goes_on}
 use Rattle.channel.proofs.channel.Channel.claim.Goals as goal
 
-pub returns : goal.returns
-returns g c =
-    record {
-      answer = c.claim_step.ensures.answer;
-      after = c.claim_step.ensures.after;
-      buffer = c.claim_step.ensures.buffer;
-      stands = goes_on g.S.Sink.step (state g.S.Sink g.H.Shelf c.args.self.now) (state g.S.Sink g.H.Shelf c.claim_step.new.self) (claim c.args.time c.args.buffer.now) (is_ok c.claim_step.result)
-          (ap is_ok c.claim_step.ensures.answer) c.claim_step.ensures.after;
-    }
+pub returns-clause-stands : goal.returns-clause-stands
+returns-clause-stands g c =
+    goes_on g.S.Sink.step (state g.S.Sink g.H.Shelf c.args.self.now) (state g.S.Sink g.H.Shelf c.claim_step.new.self) (claim c.args.time c.args.buffer.now) (is_ok c.claim_step.result)
+    (ap is_ok c.claim_step.ensures.answer) c.claim_step.ensures.after

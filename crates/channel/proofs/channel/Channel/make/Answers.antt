@@ -4,13 +4,12 @@ use Rattle.channel.specs.Follows.{make}
 use Rattle.channel.proofs.Runs.{goes_on, begins}
 use Rattle.channel.proofs.channel.Channel.make.Goals as goal
 
-pub returns : goal.returns
-returns g c =
-    record {
-      answer = c.make_step.ensures.answer;
-      after = c.make_step.ensures.after;
-      stands = goes_on g.S.Sink.step (state g.S.Sink g.H.Shelf c.args.self.now) (state g.S.Sink g.H.Shelf c.make_step.new.self) (make c.args.number c.args.source.now c.args.first) (is_ok c.make_step.result)
-          (ap is_ok c.make_step.ensures.answer) c.make_step.ensures.after;
-      begins = begins g.S.Sink.step (state g.S.Sink g.H.Shelf c.args.self.now) (state g.S.Sink g.H.Shelf c.make_step.new.self) c.args.number c.args.source.now c.args.first (is_ok c.make_step.result)
-          (ap is_ok c.make_step.ensures.answer) c.make_step.ensures.after;
-    }
+pub returns-clause-stands : goal.returns-clause-stands
+returns-clause-stands g c =
+    goes_on g.S.Sink.step (state g.S.Sink g.H.Shelf c.args.self.now) (state g.S.Sink g.H.Shelf c.make_step.new.self) (make c.args.number c.args.source.now c.args.first) (is_ok c.make_step.result)
+    (ap is_ok c.make_step.ensures.answer) c.make_step.ensures.after
+
+pub returns-clause-begins : goal.returns-clause-begins
+returns-clause-begins g c =
+    begins g.S.Sink.step (state g.S.Sink g.H.Shelf c.args.self.now) (state g.S.Sink g.H.Shelf c.make_step.new.self) c.args.number c.args.source.now c.args.first (is_ok c.make_step.result)
+    (ap is_ok c.make_step.ensures.answer) c.make_step.ensures.after

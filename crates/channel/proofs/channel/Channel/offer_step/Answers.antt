@@ -9,8 +9,8 @@ pub returns : goal.returns
 returns g c =
     let a = c.args.self.now in
     let d = c.offer.new.self in
-    let is = c.in-Some.is in
-    let x = offered g.S.Sink.step (state g.S.Sink g.H.Shelf a) (opened_with a.handover.last c.in-Some.field-0) c.args.packet.now c.args.scratch.now
+    let is = c.in_ok-ok_or.ensures.ok_part in
+    let x = offered g.S.Sink.step (state g.S.Sink g.H.Shelf a) (opened_with a.handover.last c.in_ok-ok_or.field-0) c.args.packet.now c.args.scratch.now
     (ap (option_map (opened_with a.handover.last)) is) c.offer.result (flow g.S.Sink g.H.Shelf d c.offer.new.scratch) c.offer.ensures.answer c.offer.ensures.after in
     record {
       answer = x.answer;
