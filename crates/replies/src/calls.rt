@@ -6,17 +6,13 @@ use crate::hex::Hex;
 use operator::Reply;
 use std::fmt;
 use tally::Counters;
+use wire::REQUEST;
 
 // The request, in front of a buffer.
-// Kept as a test of the length: `get(..44)` asks the same, and what it says where it gets nothing tells no proof that fewer are left.
 fn request_in(buffer: &[u8]) -> &[u8]
     ensures { result.now ≡ take 44 buffer.now }
 {
-    if buffer.len() < 44 {
-        buffer
-    } else {
-        &buffer[0..44]
-    }
+    &buffer[..REQUEST.min(buffer.len())]
 }
 
 /// The reply to an action, printed in a line that is ended; last and the buffer are as they stand after it.
