@@ -1,6 +1,6 @@
-use Rattle.std.proofs.Common.{take, ap, ◌∙◌}
-use Rattle.std.proofs.lemmas.List.{take_min}
+use Rattle.std.proofs.Common.{sym, arith}
+use Rattle.std.proofs.lemmas.List.{take_all}
 use Rattle.replies.proofs.calls.request_in.Goals as goal
 
-pub returns : goal.returns
-returns c = ap (λ n. take n c.args.buffer.now) c.min.ensures ∙ take_min 44 c.args.buffer.now
+pub returns-then-buffer-lt44 : goal.returns-then-buffer-lt44
+returns-then-buffer-lt44 c = sym (take_all 44 c.args.buffer.now (omega arith))
