@@ -1,5 +1,6 @@
 //! What the reader makes of a packet.
-ghost use Rattle.std.specs.Prelude.{◌≡◌, ℕ, List, IfOk, string_bytes};
+ghost use Rattle.std.specs.Prelude.{◌≡◌, ℕ, List, IfOk, Some, string_bytes};
+ghost use Rattle.std.specs.Fmt.{DisplaysOnOk};
 ghost use Rattle.wire.specs.Points.{points};
 ghost use Rattle.wire.specs.Prices.{price};
 ghost use Rattle.wire.specs.Reading.{reading, model};
@@ -7,6 +8,8 @@ ghost use Rattle.console.specs.Texts.{level_text, delta_text, point_lines, point
 
 use crate::text::{Heading, PricedLevel};
 use std::alloc::{AllocError, Global};
+use std::fmt;
+use std::marker::PhantomData;
 use wire::{DeltaPoint, Message, Point, Points, PricePoint, read};
 
 // A point of an update, as a line has it.
@@ -14,8 +17,9 @@ trait Line: Point {
     // What is said of the point at a scale.
     ghost said: { ℕ → Self → List ℕ };
 
-    fn line(&self, alloc: Global, scale: u8) -> Result<String, AllocError>
-        ensures { IfOk result (λ t. string_bytes t ≡ said scale self.now) };
+    // Writes what is said, and ends no line.
+    fn write_line<W: fmt::Write>(&self, scale: u8, f: &mut fmt::Formatter<W>) -> fmt::Result
+        ensures { DisplaysOnOk W.Write.write_str_gives f.old result (Some (said scale self.now)) f.new };
 }
 
 fn priced(point: PricePoint, scale: u8) -> PricedLevel
@@ -32,46 +36,66 @@ fn priced(point: PricePoint, scale: u8) -> PricedLevel
 impl Line for PricePoint {
     ghost said = { level_text };
 
-    fn line(&self, alloc: Global, scale: u8) -> Result<String, AllocError> {
+    fn write_line<W: fmt::Write>(&self, scale: u8, f: &mut fmt::Formatter<W>) -> fmt::Result {
         let level = priced(*self, scale);
-        format!(in alloc; "{level}")
+        write!(f, "{level}")
     }
 }
 
 impl Line for DeltaPoint {
     ghost said = { delta_text };
 
-    fn line(&self, alloc: Global, scale: u8) -> Result<String, AllocError> {
+    fn write_line<W: fmt::Write>(&self, scale: u8, f: &mut fmt::Formatter<W>) -> fmt::Result {
         let level = priced(self.level, scale);
         let reason = self.reason;
         let changed = self.changed;
         let link = self.link;
-        format!(in alloc; "{level} {reason} {changed} {link}")
+        write!(f, "{level} {reason} {changed} {link}")
     }
 }
 
-// A line for each point of an update.
-// Kept as a text that is built: there are as many lines as points, and a Display of them would serve this one answer.
-fn point_lines<P: Line>(alloc: Global, scale: u8, update: &[u8]) -> Result<String, AllocError>
-    ensures { IfOk result (λ t. string_bytes t ≡ point_lines (P.said scale) (points P.BYTES P.at update.now)) }
-{
-    let mut text = String::new(alloc);
-    for point in Points::<P>::new(update) {
-        let line = point.line(alloc, scale)?;
-        text.push_str(line.as_str())?;
-        text.push_str("\n")?;
-    }
-    Ok(text)
+// An update's points, printed a line for each.
+#[derive(Clone, Copy)]
+struct PointLines<'a, P: Line> {
+    scale: u8,
+    points: &'a [u8],
+    of: PhantomData<P>,
 }
 
-// A line for each point of a message.
-fn points_text(alloc: Global, message: Message<'_>) -> Result<String, AllocError>
-    ensures { IfOk result (λ t. string_bytes t ≡ points_text (model message.entry)) }
-{
-    match message {
-        Message::Full { scale, points, .. } => point_lines::<PricePoint>(alloc, scale, points),
-        Message::Delta { scale, points, .. } => point_lines::<DeltaPoint>(alloc, scale, points),
-        _ => Ok(String::new(alloc)),
+impl<'a, P: Line> fmt::Display for PointLines<'a, P> {
+    ghost output = { λ lines. Some (point_lines (P.said lines.scale) (points P.BYTES P.at lines.points.now)) };
+
+    fn fmt<W: fmt::Write>(&self, f: &mut fmt::Formatter<W>) -> fmt::Result {
+        let scale = self.scale;
+        for point in Points::<P>::new(self.points) {
+            point.write_line(scale, f)?;
+            f.write_str("\n")?;
+        }
+        Ok(())
+    }
+}
+
+// A message's points, printed a line for each; nothing where it has none.
+#[derive(Clone, Copy)]
+struct MessageLines<'a>(Message<'a>);
+
+impl<'a> fmt::Display for MessageLines<'a> {
+    ghost output = { λ lines. Some (points_text (model lines.0)) };
+
+    fn fmt<W: fmt::Write>(&self, f: &mut fmt::Formatter<W>) -> fmt::Result {
+        match self.0 {
+            Message::Full { scale, points, .. } => {
+                let of = PhantomData::<PricePoint>;
+                let lines = PointLines { scale, points, of };
+                write!(f, "{lines}")
+            }
+            Message::Delta { scale, points, .. } => {
+                let of = PhantomData::<DeltaPoint>;
+                let lines = PointLines { scale, points, of };
+                write!(f, "{lines}")
+            }
+            _ => Ok(()),
+        }
     }
 }
 
@@ -82,7 +106,7 @@ pub fn read_answer(alloc: Global, packet: &[u8]) -> Result<String, AllocError>
     match read(packet) {
         Ok(packet) => {
             let heading = Heading(&packet);
-            let points = points_text(alloc, packet.message)?;
+            let points = MessageLines(packet.message);
             format!(in alloc; "{heading}\n{points}")
         }
         Err(fault) => format!(in alloc; "{fault}\n"),

@@ -1,10 +1,10 @@
 //! The texts of prices, levels and packets.
-ghost use Rattle.std.specs.Prelude.{◌≡◌, ◌++◌, Some, codes};
+ghost use Rattle.std.specs.Prelude.{◌≡◌, ◌/◌, length, ◌++◌, Some, codes};
 ghost use Rattle.wire.specs.Reading.{packet_model};
 ghost use Rattle.console.specs.Texts.{price_text, priced_level_text, update_text, heading};
 
 use std::fmt;
-use wire::{DeltaPoint, Message, Packet, Points, PricePoint, Side};
+use wire::{DeltaPoint, Message, Packet, Point, Points, PricePoint, Side};
 
 /// A price in billionths, printed as dollars with nine decimals.
 #[derive(Clone, Copy, PartialEq, Eq, Debug)]
@@ -70,6 +70,25 @@ impl<'a, 'b> fmt::Display for Update<'a, 'b> {
     }
 }
 
+// An update of a kind, by the bytes of its points.
+fn update_of<'a, 'b, P: Point>(
+    kind: &'static str,
+    packet: &'a Packet<'b>,
+    index: u16,
+    scale: u8,
+    points: &[u8],
+) -> Update<'a, 'b>
+    ensures { result ≡ record { kind = kind.entry; packet = packet.entry; index = index; scale = scale; points = length points.now / P.BYTES } }
+{
+    Update {
+        kind,
+        packet,
+        index,
+        scale,
+        points: Points::<P>::new(points).len(),
+    }
+}
+
 /// A packet printed in one line, without its points.
 #[derive(Clone, Copy)]
 pub struct Heading<'a, 'b>(pub &'a Packet<'b>);
@@ -91,15 +110,7 @@ impl<'a, 'b> fmt::Display for Heading<'a, 'b> {
                 scale,
                 points,
             } => {
-                let kind = "full";
-                let points = Points::<PricePoint>::new(points).len();
-                let update = Update {
-                    kind,
-                    packet,
-                    index,
-                    scale,
-                    points,
-                };
+                let update = update_of::<PricePoint>("full", packet, index, scale, points);
                 write!(f, "{update}")
             }
             Message::Delta {
@@ -107,15 +118,7 @@ impl<'a, 'b> fmt::Display for Heading<'a, 'b> {
                 scale,
                 points,
             } => {
-                let kind = "delta";
-                let points = Points::<DeltaPoint>::new(points).len();
-                let update = Update {
-                    kind,
-                    packet,
-                    index,
-                    scale,
-                    points,
-                };
+                let update = update_of::<DeltaPoint>("delta", packet, index, scale, points);
                 write!(f, "{update}")
             }
         }

@@ -39,42 +39,53 @@ impl fmt::Display for Heading {
 }
 
 // A level of a side, in a line that is not ended; nothing where there is none.
-fn level_text(alloc: Global, side: Side, level: Option<Level>) -> Result<String, AllocError>
-    ensures { IfOk result (λ t. string_bytes t ≡ level_of side level) }
-{
-    match level {
-        Some(level) => {
-            let line = PricedLevel {
-                side,
-                price: level.price,
-                volume: level.volume,
-                orders: level.orders,
-            };
-            format!(in alloc; "{line}")
+#[derive(Clone, Copy)]
+struct LevelLine {
+    side: Side,
+    level: Option<Level>,
+}
+
+impl fmt::Display for LevelLine {
+    ghost output = { λ line. Some (level_of line.side line.level) };
+
+    fn fmt<W: fmt::Write>(&self, f: &mut fmt::Formatter<W>) -> fmt::Result {
+        match self.level {
+            Some(level) => {
+                let line = PricedLevel {
+                    side: self.side,
+                    price: level.price,
+                    volume: level.volume,
+                    orders: level.orders,
+                };
+                write!(f, "{line}")
+            }
+            None => Ok(()),
         }
-        None => Ok(String::new(alloc)),
     }
 }
 
-// A line for each of the first levels of a side of a book.
-// Kept as a walk over the places: the keeper gives a level by its place, and each place up to the count has a line.
-// Kept as a text that is built: a Display would hold the keeper, the index, the side and the count, for this one text.
-fn side_levels(
-    alloc: Global,
-    keeper: &BookKeeper<'_, '_, '_>,
+// The first levels of a side of a book, printed a line for each.
+#[derive(Clone, Copy)]
+struct SideLines<'k, 'a, 'b, 'c> {
+    keeper: &'k BookKeeper<'a, 'b, 'c>,
     index: u16,
     side: Side,
     count: u16,
-) -> Result<String, AllocError>
-    ensures { IfOk result (λ t. string_bytes t ≡ levels_text side (levels_shown side (book_of index (keeper_means keeper.now).books)) count) }
-{
-    let mut text = String::new(alloc);
-    for place in 0..count {
-        let level = level_text(alloc, side, keeper.level(index, side, place as usize))?;
-        text.push_str(level.as_str())?;
-        text.push_str("\n")?;
+}
+
+impl<'k, 'a, 'b, 'c> fmt::Display for SideLines<'k, 'a, 'b, 'c> {
+    ghost output = { λ lines. Some (levels_text lines.side (levels_shown lines.side (book_of lines.index (keeper_means lines.keeper.now).books)) lines.count) };
+
+    // Kept as a walk over the places: the keeper gives a level by its place, and each place up to the count has a line.
+    fn fmt<W: fmt::Write>(&self, f: &mut fmt::Formatter<W>) -> fmt::Result {
+        let side = self.side;
+        for place in 0..self.count {
+            let level = self.keeper.level(self.index, side, place as usize);
+            let line = LevelLine { side, level };
+            writeln!(f, "{line}")?;
+        }
+        Ok(())
     }
-    Ok(text)
 }
 
 /// The book of an index with its levels, buys first and the best first, a line for each; or that there is none.
@@ -89,8 +100,18 @@ pub fn book_text(
         return Ok(format!(in alloc; "book {index} none\n")?);
     };
     let heading = Heading { index, book };
-    let buys = side_levels(alloc, keeper, index, Side::Buy, book.buys)?;
-    let sells = side_levels(alloc, keeper, index, Side::Sell, book.sells)?;
+    let buys = SideLines {
+        keeper,
+        index,
+        side: Side::Buy,
+        count: book.buys,
+    };
+    let sells = SideLines {
+        keeper,
+        index,
+        side: Side::Sell,
+        count: book.sells,
+    };
     format!(in alloc; "{heading}\n{buys}{sells}")
 }
 

@@ -51,6 +51,7 @@ pub enum Command {
 }
 
 // The one index, if there is just one word and it writes one.
+// Kept apart from `only_number`, as `read_byte` from `read_number`: each is one `try_from` to its width, and one function for both widths needs a trait that says the width, for two callers.
 fn only_index(words: &[u8]) -> Option<u16>
     ensures { result ≡ only_number 16 (words_in words.now) }
 {
@@ -113,8 +114,7 @@ pub fn parse(alloc: Global, line: &[u8]) -> Result<Option<Command>, ParseError>
     if line.starts_with(b"#") {
         return Ok(None);
     }
-    match next_word(line) {
-        Some((word, words)) => Ok(Some(read_words(alloc, word, words)?)),
-        None => Ok(None),
-    }
+    next_word(line)
+        .map(|(word, words)| read_words(alloc, word, words))
+        .transpose()
 }
