@@ -38,7 +38,10 @@ const NO_ROW: Row = Row {
     executed: 0,
 };
 
-// What answers the commands of a script, but for a setup.
+// What `parse` makes of a line.
+type Parsed = Result<Option<Command>, ParseError>;
+
+// What answers the lines of a script, but for a setup.
 trait Answers {
     // What stays so from one answer to the next.
     ghost keeps: { Self → Type 0 };
@@ -47,7 +50,7 @@ trait Answers {
         &mut self,
         alloc: Global,
         scratch: &mut [u8],
-        command: Command,
+        asked: Parsed,
     ) -> Result<String, AllocError>
         requires { keeps self.old }
         ensures { keeps self.new };
@@ -64,9 +67,9 @@ impl Answers for Alone {
         &mut self,
         alloc: Global,
         _scratch: &mut [u8],
-        command: Command,
+        asked: Parsed,
     ) -> Result<String, AllocError> {
-        answer_alone(alloc, command)
+        answer_alone(alloc, asked)
     }
 }
 
@@ -78,9 +81,9 @@ impl<'a, 'b, 'c, 'd, H: Shelf> Answers for Desk<Board<'a, 'b, 'c, 'd>, H> {
         &mut self,
         alloc: Global,
         scratch: &mut [u8],
-        command: Command,
+        asked: Parsed,
     ) -> Result<String, AllocError> {
-        answer(alloc, self, scratch, command)
+        answer(alloc, self, scratch, asked)
     }
 }
 
@@ -102,11 +105,9 @@ impl Script<'_> {
         let mut scratch = [0; SCRATCH];
         for line in self.lines.by_ref() {
             match parse(alloc, line?.as_slice()) {
-                Ok(None) => {}
                 Ok(Some(Command::Setup(setup))) => return Ok(Some(setup)),
-                Ok(Some(command)) => rt.print(served.answer(alloc, &mut scratch, command)?)?,
-                Err(fault) if fault == ParseError::Unreadable => println!(rt; "{fault}")?,
-                Err(fault) => return Err(anyhow::Error::from(fault)),
+                Err(fault @ ParseError::OutOfMemory) => return Err(anyhow::Error::from(fault)),
+                asked => rt.print(served.answer(alloc, &mut scratch, asked)?)?,
             }
         }
         Ok(None)

@@ -43,44 +43,44 @@ abbrev pub counters_of : Counts → Counters
 counters_of c = record { missed = c.missed; losses = c.losses }
 
 -- the action that a command asks for, if it asks for one
-abbrev pub action_of : Command → Option Action
-action_of (Make n source first) = Some (act.Make n source first)
-action_of (Offer p) = Some (act.Offer p)
-action_of (Claim t) = Some (act.Claim t)
-action_of Settle = Some act.Settle
-action_of (Restart n) = Some (act.Restart n)
-action_of (Read p) = None
-action_of (Setup s) = None
-action_of (Book i) = None
-action_of (Row i) = None
-action_of State = None
+abbrev pub command_action : Command → Option Action
+command_action (Make n source first) = Some (act.Make n source first)
+command_action (Offer p) = Some (act.Offer p)
+command_action (Claim t) = Some (act.Claim t)
+command_action Settle = Some act.Settle
+command_action (Restart n) = Some (act.Restart n)
+command_action (Read p) = None
+command_action (Setup s) = None
+command_action (Book i) = None
+command_action (Row i) = None
+command_action State = None
 
 -- where a command leaves a session
-abbrev pub left_by : Command → Desk Board → Desk Board
-left_by k d = either (action_of k) d (λ a. desk_after told a d)
+abbrev pub command_left : Command → Desk Board → Desk Board
+command_left k d = either (command_action k) d (λ a. desk_after told a d)
 
 -- what a command answers; a setup is answered where a session is made
-abbrev pub answer_to : Command → Desk Board → List ℕ
-answer_to (Make n source first) d = acted_text told (act.Make n source first) d
-answer_to (Offer p) d = acted_text told (act.Offer p) d
-answer_to (Claim t) d = acted_text told (act.Claim t) d
-answer_to Settle d = acted_text told act.Settle d
-answer_to (Restart n) d = acted_text told (act.Restart n) d
-answer_to (Read p) d = reading_text (reading (vec_items p))
-answer_to (Setup s) d = []
-answer_to (Book i) d = book_text i (book_of i d.channel.sink.0.books)
-answer_to (Row i) d = row_text i (executed_of i d.channel.sink.1.rows)
-answer_to State d = state_text (last_of d.channel.opened) (used d.channel.shelf) d.channel.sink.0.mark (counters_of d.channel.sink.1)
+abbrev pub command_answer : Command → Desk Board → List ℕ
+command_answer (Make n source first) d = acted_text told (act.Make n source first) d
+command_answer (Offer p) d = acted_text told (act.Offer p) d
+command_answer (Claim t) d = acted_text told (act.Claim t) d
+command_answer Settle d = acted_text told act.Settle d
+command_answer (Restart n) d = acted_text told (act.Restart n) d
+command_answer (Read p) d = reading_text (reading (vec_items p))
+command_answer (Setup s) d = []
+command_answer (Book i) d = book_text i (book_of i d.channel.sink.0.books)
+command_answer (Row i) d = row_text i (executed_of i d.channel.sink.1.rows)
+command_answer State d = state_text (last_of d.channel.opened) (used d.channel.shelf) d.channel.sink.0.mark (counters_of d.channel.sink.1)
 
 -- what a command answers where no channel is set up
-abbrev pub answer_alone : Command → List ℕ
-answer_alone (Setup s) = []
-answer_alone (Read p) = reading_text (reading (vec_items p))
-answer_alone (Make n source first) = codes "unreadable\n"
-answer_alone (Offer p) = codes "unreadable\n"
-answer_alone (Claim t) = codes "unreadable\n"
-answer_alone Settle = codes "unreadable\n"
-answer_alone (Restart n) = codes "unreadable\n"
-answer_alone (Book i) = codes "unreadable\n"
-answer_alone (Row i) = codes "unreadable\n"
-answer_alone State = codes "unreadable\n"
+abbrev pub command_alone : Command → List ℕ
+command_alone (Setup s) = []
+command_alone (Read p) = reading_text (reading (vec_items p))
+command_alone (Make n source first) = codes "unreadable\n"
+command_alone (Offer p) = codes "unreadable\n"
+command_alone (Claim t) = codes "unreadable\n"
+command_alone Settle = codes "unreadable\n"
+command_alone (Restart n) = codes "unreadable\n"
+command_alone (Book i) = codes "unreadable\n"
+command_alone (Row i) = codes "unreadable\n"
+command_alone State = codes "unreadable\n"

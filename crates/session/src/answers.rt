@@ -2,19 +2,20 @@
 ghost use Rattle.std.specs.Prelude.{◌≡◌, [], ◌∷◌, IfSome, IfOk, string_bytes};
 ghost use Rattle.operator.specs.Desks.{desk as seen, RunsOn, IsOwn};
 ghost use Rattle.channel.specs.Channels.{state};
-ghost use Rattle.session.specs.Commands.{board, told, action_of, left_by, answer_to, answer_alone};
+ghost use Rattle.session.specs.Commands.{board, told, command_action, command_left, command_answer, command_alone};
+ghost use Rattle.session.specs.Lines.{action_of, left_by, refusal_text, answer_to, answer_alone};
 
 use crate::acts::act_text;
 use crate::reads::{Board, book, row, show_state};
 use console::read_answer;
 use operator::{Action, Desk};
-use script::Command;
+use script::{Command, ParseError};
 use shelf::Shelf;
 use std::alloc::{AllocError, Global};
 
-/// The answer to a command where no channel is set up: then a packet can be read, and nothing else is readable. A setup is the caller's.
-pub fn answer_alone(alloc: Global, command: Command) -> Result<String, AllocError>
-    ensures { IfOk result (λ t. string_bytes t ≡ answer_alone command) }
+// The answer to a command where no channel is set up: a packet can be read, and nothing else is readable.
+fn reply_alone(alloc: Global, command: Command) -> Result<String, AllocError>
+    ensures { IfOk result (λ t. string_bytes t ≡ command_alone command) }
 {
     match command {
         Command::Setup(_) => Ok(String::new(alloc)),
@@ -30,18 +31,16 @@ pub fn answer_alone(alloc: Global, command: Command) -> Result<String, AllocErro
     }
 }
 
-/// The answer to a command, each line ended. What it asks of the channel goes through the operator, so that whatever history the channel followed it then follows
-/// that history with the call of the command, and keeps the promise of it. A claim in hand that could be settled before can be settled after. A setup is the
-/// caller's.
-pub fn answer<H: Shelf>(
+// The answer to a command at a desk.
+fn reply<H: Shelf>(
     alloc: Global,
     desk: &mut Desk<Board<'_, '_, '_, '_>, H>,
     buffer: &mut [u8],
     command: Command,
 ) -> Result<String, AllocError>
-    ensures text { IfOk result (λ t. string_bytes t ≡ answer_to command (seen board (H.Shelf) desk.old buffer.old)) }
-    ensures stands { IfSome (action_of command) (λ a. RunsOn told (a ∷ []) (seen board (H.Shelf) desk.old buffer.old) (seen board (H.Shelf) desk.new buffer.new)) }
-    ensures after { seen board (H.Shelf) desk.new buffer.new ≡ left_by command (seen board (H.Shelf) desk.old buffer.old) }
+    ensures text { IfOk result (λ t. string_bytes t ≡ command_answer command (seen board (H.Shelf) desk.old buffer.old)) }
+    ensures stands { IfSome (command_action command) (λ a. RunsOn told (a ∷ []) (seen board (H.Shelf) desk.old buffer.old) (seen board (H.Shelf) desk.new buffer.new)) }
+    ensures after { seen board (H.Shelf) desk.new buffer.new ≡ command_left command (seen board (H.Shelf) desk.old buffer.old) }
     ensures own { IsOwn (state board (H.Shelf) desk.old.channel) desk.old.hand → IsOwn (state board (H.Shelf) desk.new.channel) desk.new.hand }
 {
     match command {
@@ -66,5 +65,48 @@ pub fn answer<H: Shelf>(
         Command::Book { index } => book(alloc, desk.channel(), index),
         Command::Row { index } => row(alloc, desk.channel(), index),
         Command::State => show_state(alloc, desk.channel()),
+    }
+}
+
+// The answer to a line that is no command.
+fn refusal(alloc: Global, fault: ParseError) -> Result<String, AllocError>
+    ensures { IfOk result (λ t. string_bytes t ≡ refusal_text fault) }
+{
+    format!(in alloc; "{fault}\n")
+}
+
+/// The answer to what `parse` makes of a line, where no channel is set up: then a packet can be read, and nothing else is readable.
+/// A line that asks nothing has an empty answer, and so has a setup, which is the caller's.
+pub fn answer_alone(
+    alloc: Global,
+    asked: Result<Option<Command>, ParseError>,
+) -> Result<String, AllocError>
+    ensures { IfOk result (λ t. string_bytes t ≡ answer_alone asked) }
+{
+    match asked {
+        Ok(None) => Ok(String::new(alloc)),
+        Ok(Some(command)) => reply_alone(alloc, command),
+        Err(fault) => refusal(alloc, fault),
+    }
+}
+
+/// The answer to what `parse` makes of a line, each line of it ended. What a command asks of the channel goes through the operator, so that whatever history the
+/// channel followed it then follows that history with the call of the command, and keeps the promise of it. A claim in hand that could be settled before can be
+/// settled after. A line that asks nothing has an empty answer, and so has a setup, which is the caller's.
+pub fn answer<H: Shelf>(
+    alloc: Global,
+    desk: &mut Desk<Board<'_, '_, '_, '_>, H>,
+    buffer: &mut [u8],
+    asked: Result<Option<Command>, ParseError>,
+) -> Result<String, AllocError>
+    ensures text { IfOk result (λ t. string_bytes t ≡ answer_to asked (seen board (H.Shelf) desk.old buffer.old)) }
+    ensures stands { IfSome (action_of asked) (λ a. RunsOn told (a ∷ []) (seen board (H.Shelf) desk.old buffer.old) (seen board (H.Shelf) desk.new buffer.new)) }
+    ensures after { seen board (H.Shelf) desk.new buffer.new ≡ left_by asked (seen board (H.Shelf) desk.old buffer.old) }
+    ensures own { IsOwn (state board (H.Shelf) desk.old.channel) desk.old.hand → IsOwn (state board (H.Shelf) desk.new.channel) desk.new.hand }
+{
+    match asked {
+        Ok(None) => Ok(String::new(alloc)),
+        Ok(Some(command)) => reply(alloc, desk, buffer, command),
+        Err(fault) => refusal(alloc, fault),
     }
 }
