@@ -1,7 +1,8 @@
 -- A keeper: a table of books, numbered from 1, and what each event makes of it.
-use Rattle.std.specs.Prelude.{codes, decimal, ◌++◌, ◌≡◌, ℕ, zero, suc, ◌+◌, ◌-◌, ◌*◌, ◌/◌, ◌<◌, ◌≤◌, min, true, false, cond, List, [], ◌∷◌, length, take, drop, replicate, Some, None, Option, nat_le, slice_index_or, slice_set}
+use Rattle.std.specs.Prelude.{◌≡◌, ℕ, zero, suc, ◌+◌, ◌-◌, ◌*◌, ◌/◌, ◌<◌, ◌≤◌, min, true, false, cond, List, [], ◌∷◌, length, take, drop, replicate, Some, None, Option, nat_le, slice_index_or, slice_set}
 use Rattle.std.specs.List.{slice_get}
 use Rattle.wire.specs.declared.point.Side.{Side}
+use Rattle.wire.specs.Texts.{refused_text}
 use Rattle.wire.specs.Reading.{reset, unavailable, mapping, full, delta}
 use Rattle.sink.specs.Events.{Event, data_of, loss_of, refresh_of, restart_of}
 use Rattle.books.specs.declared.level.Level.{Level}
@@ -18,7 +19,7 @@ fault_number Sizes = 22
 
 -- a refusal as it is printed
 abbrev pub table_fault_text : TableFault → List ℕ
-table_fault_text f = codes "refused " ++ decimal (fault_number f)
+table_fault_text f = refused_text (fault_number f)
 
 -- n parts of xs, each of d elements
 abbrev pub parts : {X : Type 0} → ℕ → ℕ → List X → List (List X)

@@ -1,4 +1,3 @@
 mod Decimals
 mod Places
 mod Splits
-pub mod Lines

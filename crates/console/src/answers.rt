@@ -22,6 +22,7 @@ trait Line: Point {
         ensures { DisplaysOnOk W.Write.write_str_gives f.old result (Some (said scale self.now)) f.new };
 }
 
+// Kept beside the like function of `books`: the levels are of two types, and neither crate stands on the other.
 fn priced(point: PricePoint, scale: u8) -> PricedLevel
     ensures { result ≡ record { side = point.side; price = price point.numerator scale; volume = point.volume; orders = point.orders } }
 {

@@ -1,14 +1,14 @@
 -- What a line of a script asks.
-use Rattle.std.specs.Prelude.{◌≡◌, ℕ, cond, List, [], ◌∷◌, Some, None, Ok, Err, vec_items, codes, Option, Result}
+use Rattle.std.specs.Prelude.{ℕ, cond, List, [], ◌∷◌, Some, None, vec_items, codes, Option, Result}
 use Rattle.std.specs.Str.{bytes_eq}
 use Rattle.script.specs.declared.command.Command.{Command}
 use Rattle.script.specs.declared.command.Command.TheVariants as code
 use Rattle.script.specs.declared.error.ParseError.{ParseError}
-use Rattle.script.specs.declared.error.ParseError.TheVariants.{Unreadable, OutOfMemory}
 use Rattle.script.specs.declared.setup.Setup.{Setup}
 use Rattle.script.specs.declared.verb.Verb.{Verb}
 use Rattle.script.specs.declared.verb.Verb.TheVariants as verb
 use Rattle.console.specs.Words.{words_in}
+use Rattle.script.specs.Faults.{Says}
 use Rattle.script.specs.Words.{begins}
 use Rattle.script.specs.Numbers.{number_in}
 use Rattle.script.specs.Fields.{only_number, packet_in, source_in, setup_in}
@@ -40,18 +40,18 @@ told_command (code.Book index) = book index
 told_command (code.Row index) = row index
 told_command code.State = state
 
--- a command that was read, or none, is what a line asks; where memory ran out nothing is told of the line
-abbrev pub Tells : Result Command ParseError → Asked → Type 0
-Tells (Ok c) a = told_command c ≡ a
-Tells (Err Unreadable) a = unreadable ≡ a
-Tells (Err OutOfMemory) a = Unit {0}
+-- what a line comes to that may ask nothing
+abbrev pub told_line : Option Command → Asked
+told_line None = pass
+told_line (Some c) = told_command c
 
--- the same of a line, which may ask nothing
+-- a command that was read is what its words ask; where memory ran out nothing is told of them
+abbrev pub Tells : Result Command ParseError → Asked → Type 0
+Tells = Says told_command unreadable
+
+-- the same of a line
 abbrev pub TellsLine : Result (Option Command) ParseError → Asked → Type 0
-TellsLine (Ok None) a = pass ≡ a
-TellsLine (Ok (Some c)) a = told_command c ≡ a
-TellsLine (Err Unreadable) a = unreadable ≡ a
-TellsLine (Err OutOfMemory) a = Unit {0}
+TellsLine = Says told_line unreadable
 
 -- the first word of a command
 abbrev pub verb_of : List ℕ → Option Verb

@@ -16,11 +16,15 @@ hex_fault (hex.InvalidHexCharacter c i) = Unreadable
 hex_fault hex.OddLength = Unreadable
 hex_fault hex.InvalidStringLength = Unreadable
 
--- a result tells, by a function of its value, what a text says, or that it says nothing; where memory ran out it tells nothing
+-- a result tells, by a function of its value, what was read, or the value that stands for what can't be read; where memory ran out it tells nothing
+abbrev pub Says : {T U : Type 0} → (T → U) → U → Result T ParseError → U → Type 0
+Says f unread (Ok x) u = f x ≡ u
+Says f unread (Err Unreadable) u = unread ≡ u
+Says f unread (Err OutOfMemory) u = Unit {0}
+
+-- the same of what a text says, if it says something
 abbrev pub Reads : {T U : Type 0} → (T → U) → Result T ParseError → Option U → Type 0
-Reads f (Ok x) o = Some (f x) ≡ o
-Reads f (Err Unreadable) o = None ≡ o
-Reads f (Err OutOfMemory) o = Unit {0}
+Reads f = Says (λ x. Some (f x)) None
 
 -- what can be read, or else why not
 abbrev pub readable : {T : Type 0} → Option T → Result T ParseError

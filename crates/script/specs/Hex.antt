@@ -1,5 +1,5 @@
 -- Bytes written as hexadecimal digits.
-use Rattle.std.specs.Prelude.{ℕ, ◌+◌, ◌-◌, ◌*◌, cond, ◌&&◌, List, [], ◌∷◌, ◌++◌, Some, None, Option, nat_le}
+use Rattle.std.specs.Prelude.{ℕ, ◌+◌, ◌-◌, ◌*◌, cond, ◌&&◌, List, [], ◌∷◌, Some, None, Option, nat_le}
 
 -- the value of a digit: 0 to 9, a to f or A to F
 abbrev pub nibble : ℕ → Option ℕ
@@ -21,8 +21,3 @@ abbrev pub hex_bytes : List ℕ → Option (List ℕ)
 hex_bytes [] = Some []
 hex_bytes (h ∷ []) = None
 hex_bytes (h ∷ (l ∷ ds)) = in_front (nibble h) (nibble l) (hex_bytes ds)
-
--- bytes in front of others
-abbrev pub behind : List ℕ → Option (List ℕ) → Option (List ℕ)
-behind xs None = None
-behind xs (Some ys) = Some (xs ++ ys)

@@ -16,7 +16,7 @@ put_fault_number Full = 13
 abbrev pub take_fault_number : TakeFault → ℕ
 take_fault_number Short = 1
 
--- a refusal as it is printed, by its number
+-- a refusal as it is printed, by its number; said again in `wire`, since a shelf stands on no crate
 abbrev pub refused_text : ℕ → List ℕ
 refused_text n = codes "refused " ++ decimal n
 

@@ -1,10 +1,11 @@
 -- What a packet says, or why it is refused. Offsets count from the packet's start.
-use Rattle.std.specs.Prelude.{ℕ, ◌+◌, ◌-◌, ◌%◌, Bool, cond, not, ◌&&◌, ◌||◌, List, length, drop, Some, None, Ok, Err, Option, Result, ◌==◌, nat_lt, slice_index}
+use Rattle.std.specs.Prelude.{◌≡◌, ◌≤◌, ℕ, ◌+◌, ◌-◌, ◌%◌, Bool, cond, not, ◌&&◌, ◌||◌, List, length, drop, Some, None, Ok, Err, Option, Result, ◌==◌, nat_lt, slice_index}
 use Rattle.std.specs.Result.{result_map_both}
 use Rattle.wire.specs.declared.fault.ReadFault.{ReadFault}
 use Rattle.wire.specs.declared.fault.ReadFault.TheVariants.{Length, Size, Product, Unknown, Flag, Body}
 use Rattle.wire.specs.declared.reader.Kind.{Kind}
 use Rattle.wire.specs.declared.reader.Kind.TheVariants as kind
+use Rattle.wire.specs.declared.reader.Fields.{Fields}
 use Rattle.wire.specs.declared.reader.Header.{Header}
 use Rattle.wire.specs.declared.message.Message.{Message}
 use Rattle.wire.specs.declared.message.Message.TheVariants.{Reset, Unavailable, Mapping, Full, Delta}
@@ -178,6 +179,17 @@ pub record Hdr : Type 0 where
 
 abbrev pub told_header : Result Header ReadFault → Result Hdr ReadFault
 told_header r = result_map_both (λ h. record { kind = h.kind; number = h.number; flag = h.flag; link = h.link; body = h.body.now }) (λ f. f) r
+
+-- the fields of a header that stands in front of a packet, and what is behind it
+pub record Fielded (p : List ℕ) (f : Fields) : Type 0 where
+  pub long : 16 ≤ length p
+  pub size : f.size ≡ be16 p 0
+  pub code : f.code ≡ be16 p 2
+  pub number : f.number ≡ be32 p 4
+  pub product : f.product ≡ slice_index p 12
+  pub flag : f.flag ≡ slice_index p 13
+  pub link : f.link ≡ slice_index p 15
+  pub body : f.body.now ≡ drop 16 p
 
 -- the header of a packet, or the first of its refusals
 abbrev pub header_in : List ℕ → Result Hdr ReadFault

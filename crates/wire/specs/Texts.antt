@@ -27,8 +27,12 @@ offset_text (Some o) = codes " by reader offset=" ++ decimal o
 abbrev pub fault_text : ReadFault → List ℕ
 fault_text f = codes "refused " ++ (decimal (fault_number f) ++ offset_text (fault_offset f))
 
+-- a refusal by its number
+abbrev pub refused_text : ℕ → List ℕ
+refused_text n = codes "refused " ++ decimal n
+
 abbrev pub request_fault_text : RequestFault → List ℕ
-request_fault_text f = codes "refused " ++ decimal (request_fault_number f)
+request_fault_text f = refused_text (request_fault_number f)
 
 abbrev pub unknown_letter_text : UnknownLetter → List ℕ
 unknown_letter_text e = codes "unknown letter " ++ decimal e.0

@@ -1,8 +1,9 @@
 //! The reader: what a packet of 16 to 1,500 bytes says, or why it is refused.
-ghost use Rattle.std.specs.Prelude.{◌≡◌, ℕ, ◌+◌, ◌-◌, ◌%◌, ◌<◌, ◌≤◌, Bool, List, length, slice_index};
+ghost use Rattle.std.specs.Prelude.{◌≡◌, ℕ, ◌+◌, ◌-◌, ◌%◌, ◌*◌, ◌^◌, ◌<◌, ◌≤◌, Bool, List, length, slice_index, MatchOption};
+ghost use Rattle.std.specs.Option.{option_map};
 ghost use Rattle.std.proofs.Common.{rules};
 ghost use Rattle.wire.specs.Bytes.{first};
-ghost use Rattle.wire.specs.Reading.{Msg, full, delta, model, told, told_message, told_header, header_in, kind_from, allowed, wrong_in_price_point, wrong_in_delta_point, wrong_in, reset_in, unavailable_in, mapping_in, update_in, body_in, reading};
+ghost use Rattle.wire.specs.Reading.{Msg, full, delta, model, told, told_message, told_header, header_in, Fielded, kind_from, allowed, wrong_in_price_point, wrong_in_delta_point, wrong_in, reset_in, unavailable_in, mapping_in, update_in, body_in, reading};
 ghost use Rattle.wire.specs.Laws.{Judged};
 
 use crate::fault::ReadFault;
@@ -14,7 +15,7 @@ const LONGEST: usize = 1500;
 
 const HEADER: usize = 16;
 
-const PRODUCT: u8 = 115;
+pub(crate) const PRODUCT: u8 = 115;
 
 const LARGEST_SCALE: u8 = 9;
 
@@ -164,18 +165,25 @@ impl Update for DeltaPoint {
     ghost laid = { Prim.search rules };
 }
 
+// The offset of a point's first wrong byte from the first point on, by the point's index.
+#[tactic(auto, using(crate::proofs::Firsts::first_within))]
+fn wrong_at<P: Update>(i: usize, point: &[u8]) -> Option<usize>
+    requires size { length point.now ≡ P.BYTES }
+    requires fits { i * P.BYTES + P.BYTES < 2 ^ 64 }
+    ensures { result ≡ option_map (λ k. i * P.BYTES + k) (first (λ k. P.wrong k (slice_index point.now k)) P.BYTES) }
+{
+    Some(i * P::BYTES + P::wrong_byte(point)?)
+}
+
 // The first byte of the points that is wrong.
-#[tactic(auto, using(crate::proofs::Chunks::none_seen, crate::proofs::Chunks::all_seen))]
 fn first_wrong<P: Update>(points: &[u8]) -> Option<usize>
     requires { length points.now % P.BYTES ≡ 0 }
     ensures { result ≡ first (wrong_in P.BYTES P.wrong points.now) (length points.now) }
 {
-    for (i, point) in points.chunks_exact(P::BYTES).enumerate() {
-        if let Some(at) = P::wrong_byte(point) {
-            return Some(i * P::BYTES + at);
-        }
-    }
-    None
+    points
+        .chunks_exact(P::BYTES)
+        .enumerate()
+        .find_map(|(i, point)| wrong_at::<P>(i, point))
 }
 
 fn read_reset<'a>(body: &'a [u8]) -> Result<Message<'a>, ReadFault>
@@ -186,7 +194,7 @@ fn read_reset<'a>(body: &'a [u8]) -> Result<Message<'a>, ReadFault>
     };
     let next = u32::from_be_bytes([*n0, *n1, *n2, *n3]);
     if next == 0 {
-        return Err(ReadFault::Body { offset: 16 });
+        return Err(ReadFault::Body { offset: HEADER });
     }
     Ok(Message::Reset { next })
 }
@@ -200,10 +208,10 @@ fn read_unavailable<'a>(body: &'a [u8]) -> Result<Message<'a>, ReadFault>
     let begin = u32::from_be_bytes([*b0, *b1, *b2, *b3]);
     let end = u32::from_be_bytes([*e0, *e1, *e2, *e3]);
     if begin == 0 {
-        return Err(ReadFault::Body { offset: 16 });
+        return Err(ReadFault::Body { offset: HEADER });
     }
     if end < begin {
-        return Err(ReadFault::Body { offset: 20 });
+        return Err(ReadFault::Body { offset: HEADER + 4 });
     }
     Ok(Message::Unavailable { begin, end })
 }
@@ -261,8 +269,21 @@ struct Header<'a> {
     body: &'a [u8],
 }
 
-fn read_header<'a>(packet: &'a [u8]) -> Result<Header<'a>, ReadFault>
-    ensures { told_header result ≡ header_in packet.now }
+// The fields of a header that is not yet judged, and the body behind it.
+#[derive(Clone, Copy)]
+struct Fields<'a> {
+    size: u16,
+    code: u16,
+    number: u32,
+    product: u8,
+    flag: u8,
+    link: u8,
+    body: &'a [u8],
+}
+
+// A packet taken apart; none where it is shorter than a header.
+fn fields_of<'a>(packet: &'a [u8]) -> Option<Fields<'a>>
+    ensures { MatchOption result (length packet.now < 16) (Fielded packet.now) }
 {
     let [
         s0,
@@ -284,28 +305,42 @@ fn read_header<'a>(packet: &'a [u8]) -> Result<Header<'a>, ReadFault>
         body @ ..,
     ] = packet
     else {
-        return Err(ReadFault::Length);
+        return None;
     };
-    if packet.len() > LONGEST {
-        return Err(ReadFault::Length);
-    }
-    if u16::from_be_bytes([*s0, *s1]) as usize + 2 != packet.len() {
-        return Err(ReadFault::Size);
-    }
-    if *product != PRODUCT {
-        return Err(ReadFault::Product);
-    }
-    let kind = Kind::try_from(u16::from_be_bytes([*t0, *t1]))?;
-    if !kind.allows(*flag) {
-        return Err(ReadFault::Flag);
-    }
-    let number = u32::from_be_bytes([*n0, *n1, *n2, *n3]);
-    Ok(Header {
-        kind,
-        number,
+    Some(Fields {
+        size: u16::from_be_bytes([*s0, *s1]),
+        code: u16::from_be_bytes([*t0, *t1]),
+        number: u32::from_be_bytes([*n0, *n1, *n2, *n3]),
+        product: *product,
         flag: *flag,
         link: *link,
         body,
+    })
+}
+
+fn read_header<'a>(packet: &'a [u8]) -> Result<Header<'a>, ReadFault>
+    ensures { told_header result ≡ header_in packet.now }
+{
+    let fields = fields_of(packet).ok_or(ReadFault::Length)?;
+    if packet.len() > LONGEST {
+        return Err(ReadFault::Length);
+    }
+    if fields.size as usize + 2 != packet.len() {
+        return Err(ReadFault::Size);
+    }
+    if fields.product != PRODUCT {
+        return Err(ReadFault::Product);
+    }
+    let kind = Kind::try_from(fields.code)?;
+    if !kind.allows(fields.flag) {
+        return Err(ReadFault::Flag);
+    }
+    Ok(Header {
+        kind,
+        number: fields.number,
+        flag: fields.flag,
+        link: fields.link,
+        body: fields.body,
     })
 }
 

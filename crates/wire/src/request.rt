@@ -3,6 +3,7 @@ ghost use Rattle.std.specs.Prelude.{◌≡◌, true, ◌++◌, replicate, is_ok}
 ghost use Rattle.wire.specs.Request.{source_right, request_head, request_answer, request_after, Requests};
 
 use crate::fault::RequestFault;
+use crate::reader::PRODUCT;
 
 /// The bytes of a request.
 pub const REQUEST: usize = 44;
@@ -21,19 +22,19 @@ pub fn is_source(source: &[u8]) -> bool
 
 // Kept as three numbers: a struct of them would be taken apart at once, and `write_request` takes them one by one.
 // What stands before the source id: MsgSize, type 20, number 0, time, product, flag 1, one entry, link flag 0, begin and end.
-fn request_head(time: u32, begin: u32, end: u32) -> [u8; 24]
+fn request_head(time: u32, begin: u32, end: u32) -> [u8; SOURCE]
     ensures { result ≡ request_head time begin end }
 {
     let [t0, t1, t2, t3] = time.to_be_bytes();
     let [b0, b1, b2, b3] = begin.to_be_bytes();
     let [e0, e1, e2, e3] = end.to_be_bytes();
     [
-        0, 42, 0, 20, 0, 0, 0, 0, t0, t1, t2, t3, 115, 1, 1, 0, b0, b1, b2, b3, e0, e1, e2, e3,
+        0, 42, 0, 20, 0, 0, 0, 0, t0, t1, t2, t3, PRODUCT, 1, 1, 0, b0, b1, b2, b3, e0, e1, e2, e3,
     ]
 }
 
 // A request whose source id is still to be written over the zeros at its end.
-fn unsigned_request(time: u32, begin: u32, end: u32) -> [u8; 44]
+fn unsigned_request(time: u32, begin: u32, end: u32) -> [u8; REQUEST]
     ensures { result ≡ request_head time begin end ++ replicate 20 0 }
 {
     let mut message = [0; REQUEST];

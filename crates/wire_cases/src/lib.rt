@@ -115,11 +115,9 @@ mod tests {
 
     // the volume of the last level that points name
     fn last_volume<P: Point>(bytes: &[u8]) -> Option<u32> {
-        let mut last = None;
-        for point in Points::<P>::new(bytes) {
-            last = Some(point.level().volume);
-        }
-        last
+        Points::<P>::new(bytes)
+            .last()
+            .map(|point| point.level().volume)
     }
 
     #[test]
