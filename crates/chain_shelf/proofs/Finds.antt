@@ -1,5 +1,5 @@
 -- What a search of the chain of packets finds.
-use Rattle.std.proofs.Common.{◌≡◌, ℕ, suc, ◌+◌, ◌-◌, ◌/◌, ◌<◌, ◌≤◌, true, eqb, ◌⊎◌, List, [], ◌∷◌, length, Some, sym, refl, ap, ◌∙◌, subst, inl, inr, ⊎_elim, arith}
+use Rattle.std.proofs.Common.{◌≡◌, ℕ, suc, ◌+◌, ◌-◌, ◌/◌, ◌<◌, ◌≤◌, true, eqb, List, [], ◌∷◌, length, Some, sym, refl, ap, ◌∙◌, subst, arith}
 use Rattle.std.proofs.lemmas.Bool.{eqb-true, both_ways}
 use Rattle.std.proofs.lemmas.Bool.Decides.{nat_tests}
 use Rattle.chain_shelf.specs.Records.{Mem, mem, records, link, next, number, size, tail, span, walk, cnt, heads, Inside, under, last}
@@ -7,7 +7,7 @@ use Rattle.shelf.specs.Store.{Packets, Up, Sized, has, lookup}
 use Rattle.chain_shelf.specs.Chain.{pack, layout, packets, tally, packs, held, Seg, Sound, Kept, Before}
 use Rattle.chain_shelf.proofs.Fills.{cnt_first}
 use Rattle.chain_shelf.proofs.Frames.{heads_tally, pack_length}
-use Rattle.chain_shelf.proofs.Segs.{first, seg_from, seg_first, seg_last, below_from, below_last, Below}
+use Rattle.chain_shelf.proofs.Segs.{first, seg_from, seg_first, below_from, below_last, Below}
 use Rattle.chain_shelf.proofs.Places.{place, at_first, has_place, lookup_place, rest}
 use Rattle.chain_shelf.proofs.Puts.{halves}
 use Rattle.chain_shelf.specs.Sounds.{opened}
@@ -27,12 +27,12 @@ under_all m k a h (x ∷ hs) u l =
     let n : number m h < k = omega (arith, i.0, u.2.0) in
     (n, under_more m k h (x ∷ hs) n ∙ ap (λ t. h ∷ t) i.1)
 
-pub all_under : (b : List ℕ) (k : ℕ) → Sound b → (tail (mem b) ≡ 0) ⊎ (number (mem b) (tail (mem b)) < k) → tail (mem b) ≡ last 0 (under (mem b) k (heads b))
-all_under b k s c = s.ends ∙ ap (last 0) (sym (go (heads b) s.chain s.rising (⊎_elim (λ z. inl (sym s.ends ∙ z)) (λ l. inr (subst (λ t. number (mem b) t < k) s.ends l)) c)))
+pub all_under : (b : List ℕ) (k : ℕ) → Sound b → number (mem b) (tail (mem b)) < k → tail (mem b) ≡ last 0 (under (mem b) k (heads b))
+all_under b k s l = s.ends ∙ ap (last 0) (sym (go (heads b) s.rising (subst (λ t. number (mem b) t < k) s.ends l)))
   where
-    go : (hs : List ℕ) → Seg (next (mem b)) 0 hs → Up 0 (packets (layout (mem b) hs)) → (last 0 hs ≡ 0) ⊎ (number (mem b) (last 0 hs) < k) → under (mem b) k hs ≡ hs
-    go [] g u d = refl
-    go (h ∷ hs) g u d = ⊎_elim (λ z. absurd (seg_last (next (mem b)) h hs g.2 g.1 z)) (λ l. (under_all (mem b) k 0 h hs u l).1) d
+    go : (hs : List ℕ) → Up 0 (packets (layout (mem b) hs)) → number (mem b) (last 0 hs) < k → under (mem b) k hs ≡ hs
+    go [] u l = refl
+    go (h ∷ hs) u l = (under_all (mem b) k 0 h hs u l).1
 
 -- a search for k found the packet at `at`
 pub record Found (b : List ℕ) (k at : ℕ) : Type 0 where

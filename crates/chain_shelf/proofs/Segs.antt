@@ -74,10 +74,6 @@ pub seg_first : (g : ℕ → ℕ) (q : ℕ) (B : List ℕ) → Seg g q B → g q
 seg_first g q [] s = s
 seg_first g q (h ∷ B) s = s.0
 
-pub seg_last : (g : ℕ → ℕ) (q : ℕ) (hs : List ℕ) → Seg g q hs → (q ≢ 0) → last q hs ≢ 0
-seg_last g q [] s n e = n e
-seg_last g q (h ∷ hs) s n e = seg_last g h hs s.2 s.1 e
-
 pub last_append : (q : ℕ) (A B : List ℕ) → last q (A ++ B) ≡ last (last q A) B
 last_append q [] B = refl
 last_append q (a ∷ A) B = last_append a A B

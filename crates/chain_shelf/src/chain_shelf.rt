@@ -6,9 +6,9 @@ ghost use Rattle.chain_shelf.specs.Chain.{Kept, Before, held, spent, store, fres
 ghost use Rattle.chain_shelf.specs.Sounds.{store_lawful};
 
 use crate::packets::{free_all, lay_packet, price_of, unlink};
-use crate::records::{BODY, LAST, NEXT, SIZE, USED, copy, number_at, read};
+use crate::records::{BODY, HEAD, LAST, NEXT, SIZE, USED, copy, link_at, number_at, read};
 use crate::region::{RECORD, Region};
-use shelf::{LONGEST, PutFault, Shelf, TakeFault};
+use shelf::{LONGEST, PutFault, SHORTEST, Shelf, TakeFault};
 
 /// A shelf in a region: the records of each packet and the free records are chains.
 #[derive(Drop)]
@@ -28,16 +28,17 @@ impl ChainShelf {
         ChainShelf { region }
     }
 
-    // The first record of the last packet whose number is below the given one, or 0: a walk from the first packet.
+    // The first record of the last packet whose number is below the given one, or the head: a walk from the head.
     fn walk_to(&self, number: u64) -> u16
         ensures { Before self.now.region.items number result }
     {
         let bytes = &self.region[..];
-        let mut prev = 0;
-        let mut at = read(bytes, 0, NEXT);
-        while at != 0 && u64::from(number_at(bytes, at)) < number {
+        let mut prev = HEAD;
+        while let Some(at) = link_at(bytes, prev, NEXT) {
+            if u64::from(number_at(bytes, at)) >= number {
+                break;
+            }
             prev = at;
-            at = read(bytes, at, NEXT);
         }
         prev
     }
@@ -47,11 +48,10 @@ impl ChainShelf {
         ensures { Before self.now.region.items number result }
     {
         let bytes = &self.region[..];
-        let last = read(bytes, 0, LAST);
-        if last == 0 || u64::from(number_at(bytes, last)) < number {
-            return last;
+        match link_at(bytes, HEAD, LAST) {
+            Some(last) if u64::from(number_at(bytes, last)) < number => last,
+            _ => self.walk_to(number),
         }
-        self.walk_to(number)
     }
 
     // That `prev` comes before a number is asked of the four functions below, and not a fact of a type: such a value would hold the bytes lent, and put and take write them.
@@ -62,8 +62,10 @@ impl ChainShelf {
         ensures { result ≡ has (held self.now.region.items) number }
     {
         let bytes = &self.region[..];
-        let at = read(bytes, prev, NEXT);
-        at != 0 && number_at(bytes, at) == number
+        match link_at(bytes, prev, NEXT) {
+            Some(at) => number_at(bytes, at) == number,
+            None => false,
+        }
     }
 
     // The number of the packet behind the one at `prev`: the least above the given number.
@@ -72,10 +74,7 @@ impl ChainShelf {
         ensures { result ≡ above (held self.now.region.items) number }
     {
         let bytes = &self.region[..];
-        let at = read(bytes, prev, NEXT);
-        if at == 0 {
-            return None;
-        }
+        let at = link_at(bytes, prev, NEXT)?;
         Some(number_at(bytes, at))
     }
 
@@ -126,14 +125,14 @@ impl Shelf for ChainShelf {
     ghost lawful = { λ s. store_lawful s.region.items s.kept };
 
     fn put(&mut self, number: u32, packet: &[u8]) -> Result<(), PutFault> {
-        let cost = price_of(packet.len());
-        if cost == 0 {
+        if !(SHORTEST..=LONGEST).contains(&packet.len()) {
             return Err(PutFault::Length);
         }
         let prev = self.seek(u64::from(number));
         if self.stands_behind(prev, number) {
             return Err(PutFault::Held);
         }
+        let cost = price_of(packet.len());
         if self.used() as usize + cost as usize > self.region.len() / RECORD - 1 {
             return Err(PutFault::Full);
         }
@@ -167,7 +166,7 @@ impl Shelf for ChainShelf {
     }
 
     fn used(&self) -> u32 {
-        u32::from(read(&self.region[..], 0, USED))
+        u32::from(read(&self.region[..], HEAD, USED))
     }
 
     fn clear(&mut self) {

@@ -11,7 +11,7 @@
 //!
 //! Numbers rise from packet to packet. So the least number held is at the front, and a number above the last packet's is known to be absent.
 // Kept as records of bytes that name one another by number, not as boxes: a shelf takes no memory but the region that it is given.
-// Kept as a number, not an Option, where a link is read: record 0 is the head of the chains, so its number is a place to stand before, and what ends a chain is that same number, written back as it was read.
+// Kept as a number, not an Option, where a link is moved to another record, or is known to lead on: it is written as it was read, the mark of the end too.
 #![tactic(auto)]
 
 mod chain_shelf;

@@ -4,7 +4,9 @@ ghost use Rattle.chain_shelf.specs.Records.{mem, records, link, next, number as 
 ghost use Rattle.shelf.specs.Store.{right};
 ghost use Rattle.chain_shelf.specs.Chain.{held, end, PriceLaw, PricesWorked, Whole, Kept, LaidIn, TakenOut};
 
-use crate::records::{BODY, LAST, LINK, MORE, NEXT, NUMBER, SIZE, USED, WORD, fill, read, write};
+use crate::records::{
+    BODY, END, HEAD, LAST, LINK, MORE, NEXT, NUMBER, SIZE, USED, fill, lay_in, link_at, read, write,
+};
 use crate::region::RECORD;
 use shelf::{LONGEST, SHORTEST};
 
@@ -23,8 +25,7 @@ fn head(bytes: &mut [u8], index: u16, after: u16, number: u32, size: u16)
     ensures others { (s q : ℕ) → q < 64 → (s ≡ index → (q < 2) ⊎ (10 ≤ q)) → mem bytes.new s q ≡ mem bytes.old s q }
 {
     write(bytes, index, NEXT, after);
-    write(bytes, index, NUMBER, (number % WORD) as u16);
-    write(bytes, index, NUMBER + 2, (number / WORD) as u16);
+    lay_in(bytes, index, NUMBER, &number.to_le_bytes());
     write(bytes, index, SIZE, size);
 }
 
@@ -36,20 +37,20 @@ fn lead(bytes: &mut [u8], free: u16, last: u16, used: u16)
     ensures used { in_use (mem bytes.new) ≡ used }
     ensures others { (s q : ℕ) → q < 64 → (s ≡ 0 → (2 ≤ q) × (q < 4)) → mem bytes.new s q ≡ mem bytes.old s q }
 {
-    write(bytes, 0, LINK, free);
-    write(bytes, 0, LAST, last);
-    write(bytes, 0, USED, used);
+    write(bytes, HEAD, LINK, free);
+    write(bytes, HEAD, LAST, last);
+    write(bytes, HEAD, USED, used);
 }
 
-/// The last packet's first record, now that `after` follows `first`: that is `first` where `after` is 0.
-fn end_of(bytes: &[u8], after: u16, first: u16) -> u16
-    requires { 0 < records bytes.now }
-    ensures { result ≡ end after first (tail (mem bytes.now)) }
+/// The last packet's first record, once what is behind the packet at `at` is behind the one at `first`: that is `first` where nothing is.
+fn end_of(bytes: &[u8], at: u16, first: u16) -> u16
+    requires { at < records bytes.now }
+    ensures { result ≡ end (next (mem bytes.now) at) first (tail (mem bytes.now)) }
 {
-    if after == 0 {
-        return first;
+    match link_at(bytes, at, NEXT) {
+        None => first,
+        Some(_) => read(bytes, HEAD, LAST),
     }
-    read(bytes, 0, LAST)
 }
 
 /// Lays a packet into the first free records, behind the packet whose first record is `prev`.
@@ -62,14 +63,14 @@ pub(crate) fn lay_packet(bytes: &mut [u8], prev: u16, number: u32, packet: &[u8]
     requires out { cnt prev (walk (link (mem bytes.old)) (span 10 (length packet.now)) (link (mem bytes.old) 0)) ≡ 0 }
     ensures { LaidIn (mem bytes.old) (mem bytes.new) prev number packet.now }
 {
-    let first = read(bytes, 0, LINK);
+    let first = read(bytes, HEAD, LINK);
     let after = read(bytes, prev, NEXT);
-    let last = end_of(bytes, after, first);
-    let used = read(bytes, 0, USED) + span_of(packet.len());
+    let last = end_of(bytes, prev, first);
+    let used = read(bytes, HEAD, USED) + span_of(packet.len());
     head(bytes, first, after, number, packet.len() as u16);
     let stop = fill(bytes, first, BODY, packet);
     let free = read(bytes, stop, LINK);
-    write(bytes, stop, LINK, 0);
+    write(bytes, stop, LINK, END);
     lead(bytes, free, last, used);
     write(bytes, prev, NEXT, first);
 }
@@ -85,9 +86,9 @@ pub(crate) fn unlink(bytes: &mut [u8], prev: u16, first: u16, stop: u16)
     ensures { TakenOut (mem bytes.old) (mem bytes.new) prev first stop }
 {
     let after = read(bytes, first, NEXT);
-    let last = end_of(bytes, after, prev);
-    let used = read(bytes, 0, USED) - span_of(usize::from(read(bytes, first, SIZE)));
-    let free = read(bytes, 0, LINK);
+    let last = end_of(bytes, first, prev);
+    let used = read(bytes, HEAD, USED) - span_of(usize::from(read(bytes, first, SIZE)));
+    let free = read(bytes, HEAD, LINK);
     write(bytes, prev, NEXT, after);
     write(bytes, stop, LINK, free);
     lead(bytes, first, last, used);
@@ -111,7 +112,7 @@ pub fn price_of(length: usize) -> u32
     ensures least { PriceLaw }
     ensures worked { PricesWorked }
 {
-    if length < SHORTEST || length > LONGEST {
+    if !(SHORTEST..=LONGEST).contains(&length) {
         return 0;
     }
     u32::from(span_of(length))
@@ -124,10 +125,10 @@ pub(crate) fn free_all(bytes: &mut [u8])
     ensures held { held bytes.new ≡ [] }
 {
     let count = (bytes.len() / RECORD) as u16;
-    for r in 1..count {
-        let after = if r + 1 < count { r + 1 } else { 0 };
-        write(bytes, r, LINK, after);
+    for r in 1..count - 1 {
+        write(bytes, r, LINK, r + 1);
     }
-    write(bytes, 0, NEXT, 0);
-    lead(bytes, 1, 0, 0);
+    write(bytes, count - 1, LINK, END);
+    write(bytes, HEAD, NEXT, END);
+    lead(bytes, 1, END, 0);
 }

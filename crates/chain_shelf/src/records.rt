@@ -1,10 +1,16 @@
 //! Records and chains of records.
-ghost use Rattle.std.specs.Prelude.{◌≡◌, ℕ, ◌+◌, ◌-◌, ◌*◌, ◌/◌, ◌%◌, ◌<◌, ◌≤◌, ◌⊎◌, length};
+ghost use Rattle.std.specs.Prelude.{◌≡◌, ℕ, ◌+◌, ◌-◌, ◌*◌, ◌/◌, ◌%◌, ◌<◌, ◌≤◌, ◌⊎◌, ◌≢◌, length, MatchOption};
 ghost use Rattle.chain_shelf.specs.Records.{mem, records, word, link, number, cut, span, walk, gather, cnt, Apart, Inside, last};
 
 use crate::region::RECORD;
 
 // That an index is one of the region's records is asked of each call, and not a fact of a type: an index is a number that was read from these very bytes, and they change beneath it.
+
+/// The record that heads the chains.
+pub(crate) const HEAD: u16 = 0;
+
+/// The link that ends a chain. It is the head's number, so no chain leads back there.
+pub(crate) const END: u16 = 0;
 
 /// Where a record has the link to the next one of its chain; record 0, to the first free record.
 pub(crate) const LINK: usize = 0;
@@ -30,8 +36,7 @@ pub(crate) const LAST: usize = 4;
 /// Where record 0 has the count of records in use.
 pub(crate) const USED: usize = 6;
 
-/// How many numbers two bytes can hold.
-pub(crate) const WORD: u32 = 65536;
+// Kept as an index and an offset, not as one value of both: each call names a record and one of the fields above, and no value of both would live longer than the call.
 
 /// The number in two bytes of a record, the low one first.
 pub(crate) fn read(bytes: &[u8], index: u16, offset: usize) -> u16
@@ -42,19 +47,27 @@ pub(crate) fn read(bytes: &[u8], index: u16, offset: usize) -> u16
     u16::from_le_bytes([bytes[at], bytes[at + 1]])
 }
 
+/// The record that a link leads to, or `None` where the link is 0, which ends a chain.
+pub(crate) fn link_at(bytes: &[u8], index: u16, offset: usize) -> Option<u16>
+    requires { (offset < 63) × (index < records bytes.now) }
+    ensures { MatchOption result (word (mem bytes.now) index offset ≡ 0) (λ at. (at ≡ word (mem bytes.now) index offset) × (at ≢ 0)) }
+{
+    match read(bytes, index, offset) {
+        END => None,
+        at => Some(at),
+    }
+}
+
 /// Writes two bytes of a record, the low one first.
 pub(crate) fn write(bytes: &mut [u8], index: u16, offset: usize, value: u16)
     requires { (offset < 63) × (index < records bytes.old) }
     ensures there { word (mem bytes.new) index offset ≡ value }
     ensures others { (s q : ℕ) → q < 64 → (s ≡ index → offset ≤ q → q ≤ offset + 1 → ⊥) → mem bytes.new s q ≡ mem bytes.old s q }
 {
-    let at = RECORD * usize::from(index) + offset;
-    let [low, high] = value.to_le_bytes();
-    bytes[at] = low;
-    bytes[at + 1] = high;
+    lay_in(bytes, index, offset, &value.to_le_bytes());
 }
 
-/// Writes a part of a packet into a record.
+/// Writes bytes into a record.
 pub(crate) fn lay_in(bytes: &mut [u8], index: u16, offset: usize, part: &[u8])
     requires { (offset + length part.now ≤ 64) × (index < records bytes.old) }
     ensures there { cut (mem bytes.new) index offset (length part.now) ≡ part.now }
@@ -81,7 +94,7 @@ pub(crate) fn fill(bytes: &mut [u8], index: u16, offset: usize, part: &[u8]) -> 
         lay_in(bytes, index, offset, part);
         return index;
     }
-    lay_in(bytes, index, offset, &part[0..room]);
+    lay_in(bytes, index, offset, &part[..room]);
     let after = read(bytes, index, LINK);
     fill(bytes, after, MORE, &part[room..])
 }
@@ -101,7 +114,7 @@ pub(crate) fn copy(bytes: &[u8], index: u16, offset: usize, buffer: &mut [u8]) -
         buffer.copy_from_slice(&bytes[from..from + buffer.len()]);
         return index;
     }
-    buffer[0..room].copy_from_slice(&bytes[from..from + room]);
+    buffer[..room].copy_from_slice(&bytes[from..from + room]);
     let after = read(bytes, index, LINK);
     copy(bytes, after, MORE, &mut buffer[room..])
 }
@@ -111,5 +124,6 @@ pub(crate) fn number_at(bytes: &[u8], index: u16) -> u32
     requires { index < records bytes.now }
     ensures { result ≡ number (mem bytes.now) index }
 {
-    u32::from(read(bytes, index, NUMBER)) + WORD * u32::from(read(bytes, index, NUMBER + 2))
+    let at = RECORD * usize::from(index) + NUMBER;
+    u32::from_le_bytes([bytes[at], bytes[at + 1], bytes[at + 2], bytes[at + 3]])
 }

@@ -61,7 +61,7 @@ impl TryFrom<Vec<u8>> for Region {
 
     fn try_from(bytes: Vec<u8>) -> Result<Region, RegionFault> {
         let size = bytes.len();
-        if size % RECORD != 0 || size < FEWEST * RECORD || size > MOST * RECORD {
+        if !size.is_multiple_of(RECORD) || !(FEWEST..=MOST).contains(&(size / RECORD)) {
             return Err(RegionFault::Size(bytes));
         }
         Ok(Region { bytes })

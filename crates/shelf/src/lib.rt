@@ -12,9 +12,10 @@ mod quota;
 
 pub use quota::Quota;
 
-/// The shortest and the longest packet, in bytes.
+/// The bytes of the shortest packet.
 pub const SHORTEST: usize = 16;
 
+/// The bytes of the longest packet.
 pub const LONGEST: usize = 1500;
 
 /// Why a packet was not put on a shelf.

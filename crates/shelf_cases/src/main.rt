@@ -26,24 +26,24 @@ fn compare<S: Shelf + Drop>(
 }
 
 // An empty chain shelf of so many records, in memory that held something else.
-fn chain(heap: Global, records: u16) -> anyhow::Result<ChainShelf> {
-    let memory = vec![in heap; 165u8; usize::from(records) * 64]?;
+fn chain(alloc: Global, records: u16) -> anyhow::Result<ChainShelf> {
+    let memory = vec![in alloc; 165u8; usize::from(records) * 64]?;
     Ok(ChainShelf::new(Region::try_from(memory)?))
 }
 
 fn run(rt: &HostRuntime) -> anyhow::Result<()> {
-    let heap = rt.alloc();
-    let slots = || Model::new(heap, Prices::Slots, 16);
-    let records = |total| Model::new(heap, Prices::Records, total);
+    let alloc = rt.alloc();
+    let slots = || Model::new(alloc, Prices::Slots, 16);
+    let records = |total| Model::new(alloc, Prices::Records, total);
     compare(rt, "slots", SlotShelf::new(), slots(), 40)?;
-    compare(rt, "chain of 26", chain(heap, 26)?, records(25), 40)?;
-    compare(rt, "chain of 300", chain(heap, 300)?, records(299), 400)?;
+    compare(rt, "chain of 26", chain(alloc, 26)?, records(25), 40)?;
+    compare(rt, "chain of 300", chain(alloc, 300)?, records(299), 400)?;
     let quota = Quota::new(SlotShelf::new(), 9);
     compare(rt, "slots under 9", quota, slots().under(9), 40)?;
-    let pile = Quota::new(Quota::new(chain(heap, 300)?, 100), 7);
+    let pile = Quota::new(Quota::new(chain(alloc, 300)?, 100), 7);
     let model = records(299).under(100).under(7);
     compare(rt, "chain of 300 under 100, 7", pile, model, 40)?;
-    let pile = Quota::new(Quota::new(Quota::new(chain(heap, 300)?, 90), 250), 60);
+    let pile = Quota::new(Quota::new(Quota::new(chain(alloc, 300)?, 90), 250), 60);
     let model = records(299).under(90).under(250).under(60);
     compare(rt, "chain of 300 under 90, 250, 60", pile, model, 40)
 }

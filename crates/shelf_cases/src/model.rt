@@ -1,5 +1,5 @@
 //! A shelf as a plain map, to hold the proved shelves against.
-use shelf::PutFault;
+use shelf::{LONGEST, PutFault, SHORTEST};
 use std::alloc::{AllocError, Global};
 use std::collections::BTreeMap;
 
@@ -15,17 +15,17 @@ pub enum Prices {
 /// A map from number to packet under a total of units.
 #[derive(Drop)]
 pub struct Model {
-    heap: Global,
+    alloc: Global,
     held: BTreeMap<u32, Vec<u8>>,
     prices: Prices,
     total: u64,
 }
 
 impl Model {
-    pub fn new(heap: Global, prices: Prices, total: u64) -> Model {
+    pub fn new(alloc: Global, prices: Prices, total: u64) -> Model {
         Model {
-            heap,
-            held: BTreeMap::new(heap),
+            alloc,
+            held: BTreeMap::new(alloc),
             prices,
             total,
         }
@@ -33,23 +33,28 @@ impl Model {
 
     /// The model under one more quota.
     pub fn under(self, limit: u64) -> Model {
-        let most = limit.max(self.price(1500));
+        let most = limit.max(self.price(LONGEST));
         Model {
             total: most.min(self.total),
             ..self
         }
     }
 
-    /// The price of a length, 0 for one that no packet has.
-    pub fn price(&self, length: usize) -> u64 {
-        if length < 16 || length > 1500 {
-            return 0;
+    // The price of a length, or `None` for one that no packet has.
+    fn price_of(&self, length: usize) -> Option<u64> {
+        if !(SHORTEST..=LONGEST).contains(&length) {
+            return None;
         }
-        match self.prices {
+        Some(match self.prices {
             Prices::Slots => 1,
             Prices::Records if length <= 54 => 1,
             Prices::Records => (length as u64 - 54).div_ceil(62) + 1,
-        }
+        })
+    }
+
+    /// The same as a shelf tells it, with 0 for `None`.
+    pub fn price(&self, length: usize) -> u64 {
+        self.price_of(length).unwrap_or(0)
     }
 
     pub fn used(&self) -> u64 {
@@ -66,12 +71,12 @@ impl Model {
         self.held.keys().copied().find(|held| *held > number)
     }
 
-    /// The answer to a put, which is compared with a shelf's; it fails only where memory runs out.
+    /// The answer to a put.
+    // Kept as a result in a result: the inner one is the answer, which is compared with a shelf's, and the outer one fails where memory runs out.
     pub fn put(&mut self, number: u32, packet: &[u8]) -> Result<Result<(), PutFault>, AllocError> {
-        let cost = self.price(packet.len());
-        if cost == 0 {
+        let Some(cost) = self.price_of(packet.len()) else {
             return Ok(Err(PutFault::Length));
-        }
+        };
         if self.holds(number) {
             return Ok(Err(PutFault::Held));
         }
@@ -79,7 +84,7 @@ impl Model {
             return Ok(Err(PutFault::Full));
         }
         self.held
-            .insert(number, Vec::from_slice(self.heap, packet)?)?;
+            .insert(number, Vec::from_slice(self.alloc, packet)?)?;
         Ok(Ok(()))
     }
 

@@ -2,7 +2,7 @@
 use crate::model::Model;
 use anyhow::ensure;
 use random::Random;
-use shelf::{PutFault, Shelf, TakeFault};
+use shelf::{LONGEST, PutFault, SHORTEST, Shelf, TakeFault};
 use std::alloc::{AllocError, Global};
 use std::collections::BTreeSet;
 
@@ -31,12 +31,26 @@ impl From<PutFault> for Met {
 const MEETINGS: usize = 6;
 
 /// The lengths of packets that matter.
-const LENGTHS: [usize; 13] = [15, 16, 53, 54, 55, 56, 115, 116, 117, 118, 1499, 1500, 1501];
+const LENGTHS: [usize; 13] = [
+    SHORTEST - 1,
+    SHORTEST,
+    53,
+    54,
+    55,
+    56,
+    115,
+    116,
+    117,
+    118,
+    LONGEST - 1,
+    LONGEST,
+    LONGEST + 1,
+];
 
 /// A shelf and its model, with the choices that are made for both and what their calls have met.
 #[derive(Drop)]
 pub struct Trial<S> {
-    heap: Global,
+    alloc: Global,
     shelf: S,
     model: Model,
     numbers: u32,
@@ -46,14 +60,14 @@ pub struct Trial<S> {
 
 impl<S: Shelf> Trial<S> {
     /// A trial of an empty shelf, with packets of so many numbers.
-    pub fn new(heap: Global, shelf: S, model: Model, numbers: u32) -> Trial<S> {
+    pub fn new(alloc: Global, shelf: S, model: Model, numbers: u32) -> Trial<S> {
         Trial {
-            heap,
+            alloc,
             shelf,
             model,
             numbers,
             random: Random::new(88_172_645_463_325_252),
-            met: BTreeSet::new(heap),
+            met: BTreeSet::new(alloc),
         }
     }
 
@@ -96,11 +110,11 @@ impl<S: Shelf> Trial<S> {
 
     fn take(&mut self) -> anyhow::Result<()> {
         let number = self.random.below(self.numbers);
-        let room = 1499 + self.random.below(8) as usize / 2;
+        let room = LONGEST - 1 + self.random.below(8) as usize / 2;
         let mut buffer = self.bytes(room)?;
         let before = buffer.clone()?;
         let told = self.shelf.take(number, buffer.as_mut_slice());
-        if room < 1500 {
+        if room < LONGEST {
             self.met.insert(Met::Short)?;
             ensure!(told == Err(TakeFault::Short), "take refuses");
             ensure!(TakeFault::Short.number() == 1, "take's refusal");
@@ -149,7 +163,7 @@ impl<S: Shelf> Trial<S> {
     fn length(&mut self) -> usize {
         match LENGTHS.get(self.random.below(26) as usize) {
             Some(length) => *length,
-            None => 16 + self.random.below(200) as usize,
+            None => SHORTEST + self.random.below(200) as usize,
         }
     }
 
@@ -158,6 +172,6 @@ impl<S: Shelf> Trial<S> {
         let random = &mut self.random;
         (0..count)
             .map(|_| random.below(256) as u8)
-            .collect(self.heap)
+            .collect(self.alloc)
     }
 }

@@ -77,9 +77,6 @@ lookup_adds : (bytes : List ℕ) (o : Option Held) (h : Packets) (k : ℕ) → s
 lookup_adds bytes None h k d = refl
 lookup_adds bytes (Some x) h k d = let e = lookup_insert x.number (front bytes x) h k in grind (arith, nat_tests)
 
-kept_filled : (t : Slot) (k : ℕ) (p : List ℕ) → kept (filled t k p) ≡ Some p
-kept_filled t k p = ap Some (take_at p (drop (length p) t.bytes) (length p) refl)
-
 -- a free slot is filled
 held_first : (t : Slot) (k : ℕ) (p : List ℕ) (h : Packets) → adds (filled t k p).bytes (filled t k p).held h ≡ insert k p h
 held_first t k p h = ap (λ q. insert k q h) (take_at p (drop (length p) t.bytes) (length p) refl)

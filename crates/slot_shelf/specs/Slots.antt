@@ -1,9 +1,10 @@
 -- What sixteen slots hold.
-use Rattle.std.specs.Prelude.{◌≡◌, ℕ, ◌^◌, ◌<◌, ◌≤◌, min, Bool, true, false, cond, not, ◌&&◌, List, [], ◌∷◌, ◌++◌, length, get_or, take, drop, Some, None, IsNone, IfSome, Option, ◌==◌, nat_lt, slice_index_or}
+use Rattle.std.specs.Prelude.{◌≡◌, ℕ, ◌^◌, ◌≤◌, min, Bool, true, false, cond, not, ◌&&◌, List, [], ◌∷◌, ◌++◌, length, get_or, take, drop, Some, None, IsNone, IfSome, Option, ◌==◌, nat_lt, slice_index_or}
 use Rattle.std.specs.Option.{option_map, option_map_or, option_and_then}
 use Rattle.shelf.specs.Store.{Packets, Store, insert, has, right}
 use Rattle.slot_shelf.specs.declared.slot.Slot.{Slot}
 use Rattle.slot_shelf.specs.declared.slot.Held.{Held}
+use Rattle.slot_shelf.specs.declared.table.Place.{Place}
 
 -- what is read past the last slot: no packet
 abbrev pub no_slot : Slot
@@ -67,13 +68,13 @@ abbrev pub slots_sound : List Slot → Bool
 slots_sound [] = true
 slots_sound (s ∷ ss) = sound_beside (slots_held ss) s.bytes s.held && slots_sound ss
 
--- slot i has no packet
-abbrev pub FreeAt : List Slot → ℕ → Type 0
-FreeAt ss i = (i < length ss) × IsNone (get_or ss i no_slot).held
+-- the slot at a place has no packet
+abbrev pub FreeAt : List Slot → Place → Type 0
+FreeAt ss p = IsNone (get_or ss p.index no_slot).held
 
--- slot i holds the packet of a number
-abbrev pub HeldAt : List Slot → ℕ → ℕ → Type 0
-HeldAt ss k i = (i < length ss) × (holds_number (slice_index_or ss i no_slot) k ≡ true)
+-- the slot at a place holds the packet of a number
+abbrev pub HeldAt : List Slot → ℕ → Place → Type 0
+HeldAt ss k p = holds_number (slice_index_or ss p.index no_slot) k ≡ true
 
 -- what slots mean: sixteen units, and each packet costs one
 abbrev pub slot_store : List Slot → Store

@@ -12,7 +12,7 @@ mod slot;
 mod table;
 
 use slot::Slot;
-use table::{SLOTS, Table};
+use table::{Place, SLOTS, Table};
 
 /// A shelf of sixteen slots. Each packet costs one unit, the slot that it lies in.
 #[derive(Drop)]
@@ -39,19 +39,25 @@ impl SlotShelf {
     }
 
     // The first slot with no packet.
-    fn free(&self) -> Option<usize>
+    fn free(&self) -> Option<Place>
         ensures room { is_some result ≡ nat_lt (used (slot_store self.now.slots.items)) 16 }
         ensures found { IfSome result (FreeAt self.now.slots.items) }
     {
-        self.slots.items.iter().position(|slot| slot.held.is_none())
+        let index = self
+            .slots
+            .items
+            .iter()
+            .position(|slot| slot.held.is_none())?;
+        Some(Place { index })
     }
 
     // The slot with the packet of a number.
-    fn place(&self, number: u32) -> Option<usize>
+    fn place(&self, number: u32) -> Option<Place>
         ensures held { is_some result ≡ has (slots_held self.now.slots.items) number }
         ensures found { IfSome result (HeldAt self.now.slots.items number) }
     {
-        self.slots.items.iter().position(|slot| slot.holds(number))
+        let index = self.slots.items.iter().position(|slot| slot.holds(number))?;
+        Some(Place { index })
     }
 
     // How many slots hold a packet.
@@ -63,26 +69,26 @@ impl SlotShelf {
     }
 
     // Puts a packet into a free slot.
-    #[tactic(auto, using(crate::proofs::Shelved::held_filled, crate::proofs::Shelved::sound_filled))]
-    fn keep(&mut self, i: usize, number: u32, packet: &[u8])
-        requires free { FreeAt self.old.slots.items i }
+    #[tactic(auto, using(crate::proofs::Shelved::held_filled))]
+    fn keep(&mut self, place: Place, number: u32, packet: &[u8])
+        requires free { FreeAt self.old.slots.items place }
         requires absent { has (slots_held self.old.slots.items) number ≡ false }
         requires sized { right (length packet.now) ≡ true }
         ensures { slots_held self.new.slots.items ≡ insert number packet.now (slots_held self.old.slots.items) }
     {
-        self.slots.fill_at(i, number, packet);
+        self.slots.fill_at(place, number, packet);
     }
 
     // Moves the packet of a number to the front of the buffer, and answers its length.
-    #[tactic(auto, using(crate::proofs::Shelved::fits_at, crate::proofs::Shelved::lookup_at, crate::proofs::Shelved::held_emptied, crate::proofs::Shelved::sound_emptied))]
+    #[tactic(auto, using(crate::proofs::Shelved::fits_at, crate::proofs::Shelved::lookup_at, crate::proofs::Shelved::held_emptied))]
     fn withdraw(&mut self, number: u32, buffer: &mut [u8]) -> Option<usize>
         requires { 1500 ≤ length buffer.old }
         ensures answer { result ≡ length_of (lookup (slots_held self.old.slots.items) number) }
         ensures buffer { buffer.new ≡ written (lookup (slots_held self.old.slots.items) number) buffer.old }
         ensures after { slots_held self.new.slots.items ≡ remove number (slots_held self.old.slots.items) }
     {
-        let i = self.place(number)?;
-        self.slots.empty_at(i, buffer)
+        let place = self.place(number)?;
+        self.slots.empty_at(place, buffer)
     }
 }
 
@@ -92,16 +98,16 @@ impl Shelf for SlotShelf {
     ghost lawful = { λ s. slots_lawful s.slots.items s.sixteen s.sound };
 
     fn put(&mut self, number: u32, packet: &[u8]) -> Result<(), PutFault> {
-        if packet.len() < SHORTEST || packet.len() > LONGEST {
+        if !(SHORTEST..=LONGEST).contains(&packet.len()) {
             return Err(PutFault::Length);
         }
         if self.holds(number) {
             return Err(PutFault::Held);
         }
-        let Some(i) = self.free() else {
+        let Some(place) = self.free() else {
             return Err(PutFault::Full);
         };
-        self.keep(i, number, packet);
+        self.keep(place, number, packet);
         Ok(())
     }
 
@@ -125,11 +131,7 @@ impl Shelf for SlotShelf {
     }
 
     fn price(&self, length: usize) -> u32 {
-        if length < SHORTEST || length > LONGEST {
-            0
-        } else {
-            1
-        }
+        u32::from((SHORTEST..=LONGEST).contains(&length))
     }
 
     #[tactic(auto, using(crate::proofs::Shelved::units_count))]

@@ -1,20 +1,20 @@
-//! Room for one packet, and a table of such.
-ghost use Rattle.std.specs.Prelude.{◌≡◌, ◌<◌, ◌≤◌, length, slice_index_or, slice_set};
+//! A slot: room for one packet. And the slots of a table, filled and emptied by place.
+ghost use Rattle.std.specs.Prelude.{◌≡◌, ◌≤◌, length, slice_index_or, slice_set};
 ghost use Rattle.shelf.specs.Store.{length_of, written};
 ghost use Rattle.slot_shelf.specs.Slots.{filled, emptied, kept, fits, holds_number, number_above, no_slot};
 
-use crate::table::Table;
+use crate::table::{Place, Table};
 use shelf::LONGEST;
 
-/// What a slot tells of the packet in it: its number, and how many of the slot's bytes are its own.
+/// What is told of the packet in a slot: its number and its length. Its bytes are the slot's first ones.
 #[derive(Clone, Copy)]
 pub struct Held {
     pub number: u32,
     pub len: usize,
 }
 
-/// Room for one packet, and what is held there.
-// Kept as an array with a length, not a vector of fixed capacity: such a vector writes a blank over each byte that it lets go of, and here a packet that goes costs no write.
+/// Room for one packet, and what is told of the packet in it, if there is one.
+// Kept as an array and a length, not a vector of fixed capacity: such a vector writes a blank over each byte that it lets go of, and here a packet's bytes stay as they are.
 #[derive(Clone, Copy)]
 pub struct Slot {
     pub bytes: [u8; LONGEST],
@@ -65,23 +65,21 @@ impl Slot {
 
 impl Table<Slot> {
     /// Puts a packet into one slot.
-    pub(crate) fn fill_at(&mut self, i: usize, number: u32, packet: &[u8])
-        requires at { i < 16 }
-        requires size { length packet.now ≤ 1500 }
-        ensures { self.new.items ≡ slice_set self.old.items i (filled (slice_index_or self.old.items i no_slot) number packet.now) }
+    pub(crate) fn fill_at(&mut self, place: Place, number: u32, packet: &[u8])
+        requires { length packet.now ≤ 1500 }
+        ensures { self.new.items ≡ slice_set self.old.items place.index (filled (slice_index_or self.old.items place.index no_slot) number packet.now) }
     {
-        self.lend(i).fill(number, packet);
+        self.lend(place.index).fill(number, packet);
     }
 
     /// Moves the packet of one slot to the front of the buffer, and answers its length, if there is one.
-    pub(crate) fn empty_at(&mut self, i: usize, buffer: &mut [u8]) -> Option<usize>
-        requires at { i < 16 }
+    pub(crate) fn empty_at(&mut self, place: Place, buffer: &mut [u8]) -> Option<usize>
         requires buffer { 1500 ≤ length buffer.old }
-        requires packet { fits (slice_index_or self.old.items i no_slot) }
-        ensures answer { result ≡ length_of (kept (slice_index_or self.old.items i no_slot)) }
-        ensures buffer { buffer.new ≡ written (kept (slice_index_or self.old.items i no_slot)) buffer.old }
-        ensures after { self.new.items ≡ slice_set self.old.items i (emptied (slice_index_or self.old.items i no_slot)) }
+        requires packet { fits (slice_index_or self.old.items place.index no_slot) }
+        ensures answer { result ≡ length_of (kept (slice_index_or self.old.items place.index no_slot)) }
+        ensures buffer { buffer.new ≡ written (kept (slice_index_or self.old.items place.index no_slot)) buffer.old }
+        ensures after { self.new.items ≡ slice_set self.old.items place.index (emptied (slice_index_or self.old.items place.index no_slot)) }
     {
-        self.lend(i).empty_into(buffer)
+        self.lend(place.index).empty_into(buffer)
     }
 }

@@ -1,6 +1,5 @@
 use Rattle.std.proofs.Common.{◌≡◌, ℕ, ◌+◌, ◌-◌, ◌/◌, ◌<◌, List, length, sym, ap, ◌∙◌, subst, arith}
-use Rattle.chain_shelf.specs.Records.{mem, records, link, tail, in_use, span, walk, Apart, Inside}
-use Rattle.chain_shelf.specs.Chain.{end}
+use Rattle.chain_shelf.specs.Records.{mem, records, link, in_use, span, walk, Apart, Inside}
 use Rattle.chain_shelf.proofs.Fills.{cnt_first}
 use Rattle.chain_shelf.proofs.Lays.{walk_head, laid_in}
 use Rattle.chain_shelf.proofs.packets.lay_packet.Goals as goal
@@ -35,5 +34,5 @@ returns c =
     (c.head.ensures.after ∙ c.read-after.ensures) c.head.ensures.number c.head.ensures.size
     c.fill-stop.ensures.laid c.fill-stop.ensures.last c.fill-stop.ensures.others
     c.read-free.ensures c.write.ensures.there c.write.ensures.others
-    c.lead.ensures.free (c.lead.ensures.last ∙ c.end_of-last.ensures ∙ ap (λ t. end t c.read-first.result (tail (mem b))) c.read-after.ensures) (c.lead.ensures.used ∙ used) c.lead.ensures.others
+    c.lead.ensures.free (c.lead.ensures.last ∙ c.end_of-last.ensures) (c.lead.ensures.used ∙ used) c.lead.ensures.others
     c.write-2.ensures.there c.write-2.ensures.others

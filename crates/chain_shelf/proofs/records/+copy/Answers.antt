@@ -1,5 +1,4 @@
 use Rattle.std.proofs.Common.{◌≡◌, ℕ, ◌+◌, ◌-◌, ◌*◌, ◌/◌, ◌<◌, ◌≤◌, List, ◌++◌, length, take, drop, sym, ap, ◌∙◌, subst, arith, length-append, rules}
-use borrow.Rule.Slice.PartMut.{post_of}
 use Rattle.std.proofs.lemmas.List.{take_rest, length-drop}
 use Rattle.chain_shelf.specs.Records.{mem, records, cut, link, span, walk, Inside, last}
 use Rattle.chain_shelf.proofs.Cuts.{cut_is, cut_length}
@@ -27,9 +26,9 @@ returns-then-buffer-room t c =
 first : (b x : List ℕ) (q r o : ℕ) → q ≡ r → 2 ≤ o → o < 64 → r < records b → x ≡ take ((64 * q + o + (64 - o)) - (64 * q + o)) (drop (64 * q + o) b) → x ≡ cut (mem b) r o (64 - o)
 first b x q r o f lo hi a h = drawn b x q r o (64 - o) ((64 * q + o + (64 - o)) - (64 * q + o)) f (omega arith) (omega arith) a h
 
-left : (x B : List ℕ) (k : ℕ) → length x ≡ k → k < length B → length (take (length (x ++ post_of 0 (k - 0) B) - k) (drop k (x ++ post_of 0 (k - 0) B))) ≡ length B - k
+left : (x B : List ℕ) (k : ℕ) → length x ≡ k → k < length B → length (take (length (x ++ drop k B) - k) (drop k (x ++ drop k B))) ≡ length B - k
 left x B k e l =
-    let Y = x ++ post_of 0 (k - 0) B in
+    let Y = x ++ drop k B in
     let y : length Y ≡ length B = simp (length-append, length-drop) (omega arith) in
     ap length (take_rest Y k) ∙ length-drop k Y ∙ ap (λ t. t - k) y
 
@@ -41,7 +40,7 @@ copy-requires t c =
     let r = c.args.index in
     let a = c.read-after.result in
     let X = c.copy_from_slice-2.new.self in
-    let Y = X ++ post_of 0 ((64 - o) - 0) B in
+    let Y = X ++ drop (64 - o) B in
     let P = take (length Y - (64 - o)) (drop (64 - o) Y) in
     let e : X ≡ cut (mem b) r o (64 - o) = first b X c.from.result r o c.from.ensures c.requires.low c.requires.high c.requires.at c.copy_from_slice-2.ensures.after in
     let n : length P ≡ length B - (64 - o) = left X B (64 - o) (ap length e ∙ cut_length (mem b) r o (64 - o)) (omega arith) in
@@ -58,14 +57,14 @@ returns t c =
     let r = c.args.index in
     let a = c.read-after.result in
     let X = c.copy_from_slice-2.new.self in
-    let Y = X ++ post_of 0 ((64 - o) - 0) B in
+    let Y = X ++ drop (64 - o) B in
     let P = take (length Y - (64 - o)) (drop (64 - o) Y) in
     let e : X ≡ cut (mem b) r o (64 - o) = first b X c.from.result r o c.from.ensures c.requires.low c.requires.high c.requires.at c.copy_from_slice-2.ensures.after in
     let k : length X ≡ 64 - o = ap length e ∙ cut_length (mem b) r o (64 - o) in
     let n : length P ≡ length B - (64 - o) = left X B (64 - o) k (omega arith) in
     let w = walk_next (mem b) r o (length B) (length P) a (omega arith) (omega arith) (omega arith) n c.read-after.ensures in
     record {
-      laid = behind X (post_of 0 ((64 - o) - 0) B) c.copy.new.buffer (64 - o) k ∙ ap (λ t. t ++ c.copy.new.buffer) e ∙ ap (λ t. cut (mem b) r o (64 - o) ++ t) c.copy.ensures.laid
+      laid = behind X (drop (64 - o) B) c.copy.new.buffer (64 - o) k ∙ ap (λ t. t ++ c.copy.new.buffer) e ∙ ap (λ t. cut (mem b) r o (64 - o) ++ t) c.copy.ensures.laid
           ∙ sym (gather_next (mem b) r o (length B) (length P) a (omega arith) (omega arith) (omega arith) n c.read-after.ensures);
       last = c.copy.ensures.last ∙ sym (ap (last r) w);
     }

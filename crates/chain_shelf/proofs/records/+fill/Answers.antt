@@ -33,10 +33,8 @@ returns t c =
     let v = mem c.lay_in-2.new.bytes in
     let w = mem c.fill.new.bytes in
     let f = λ (s : ℕ) (q : ℕ) (i : q < 64) (h : s ≡ r → o ≤ q → ⊥). c.lay_in-2.ensures.others s q i (λ e j _. h e j) in
-    let S = take ((64 - o) - 0) p in
-    let k : S ≡ take (64 - o) p = let k : (64 - o) - 0 ≡ 64 - o = omega arith in ap (λ j. take j p) k in
-    let h : length S ≡ 64 - o = ap length k ∙ length-take-le (64 - o) p (omega arith) in
-    let d : cut v r o (64 - o) ≡ take (64 - o) p = sym (ap (cut v r o) h) ∙ c.lay_in-2.ensures.there ∙ k in
+    let h = length-take-le (64 - o) p (omega arith) in
+    let d : cut v r o (64 - o) ≡ take (64 - o) p = sym (ap (cut v r o) h) ∙ c.lay_in-2.ensures.there in
     record {
       laid = fill_data m v w r o (length p) (length P) a p (omega arith) (omega arith) (omega arith) n c.read-after.ensures c.requires.apart f c.fill.ensures.others d (c.fill.ensures.laid ∙ take_rest p (64 - o));
       last = c.fill.ensures.last ∙ sym (ap (last r) (walk_more m v w r o (length p) (length P) a p (omega arith) (omega arith) (omega arith) n c.read-after.ensures c.requires.apart f));

@@ -8,17 +8,17 @@ use Rattle.slot_shelf.proofs.SlotShelf.withdraw.Goals as goal
 pub invariant_of-self : goal.invariant_of-self
 invariant_of-self c =
     let ss = c.args.self.now.slots.items in
-    let i = c.in_ok-i.i in
+    let i = c.in_ok-place.place.index in
     record {
       sixteen = ap length c.empty_at.ensures.after ∙ length-set ss i _ ∙ c.args.self.now.sixteen;
       sound = ap slots_sound c.empty_at.ensures.after ∙ sound_emptied ss i _ refl c.args.self.now.sound;
     }
 
-pub returns-in_err-i : goal.returns-in_err-i
-returns-in_err-i c =
+pub returns-in_err-place : goal.returns-in_err-place
+returns-in_err-place c =
     let h = slots_held c.args.self.now.slots.items in
     let k = c.args.number in
-    let a = sym c.in_err-i.ensures.held in
+    let a = sym c.in_err-place.ensures.held in
     let e = lookup_none h k a in
     record {
       answer = let n : c.from_residual.result ≡ None = search rules in n ∙ ap length_of (sym e);

@@ -1,4 +1,4 @@
-use Rattle.std.proofs.Common.{◌≡◌, length, sym, ap, ◌∙◌, subst, arith}
+use Rattle.std.proofs.Common.{◌≡◌, length, sym, refl, ap, ◌∙◌, subst, arith}
 use Rattle.chain_shelf.specs.Records.{mem, records, next, trail, under, last}
 use Rattle.chain_shelf.specs.Chain.{Kept}
 use Rattle.chain_shelf.specs.Sounds.{opened}
@@ -9,32 +9,29 @@ use Rattle.chain_shelf.proofs.chain_shelf.ChainShelf.walk_to.Goals as goal
 pub loop-at-init : goal.loop-at-init
 loop-at-init c =
     let b = c.deref.result.now in
-    let e : c.read-at.result ≡ next (mem b) 0 = c.read-at.ensures in (
-      omega arith,
-      subst (Left (mem b) (records b) 0) (sym e) (left_all b (opened b (subst Kept (sym c.deref.ensures.value) c.args.self.now.kept))),
-      ap (λ t. last 0 (under (mem b) c.args.number (trail (next (mem b)) (records b) t))) e,
-    )
+    (omega arith, left_all b (opened b (subst Kept (sym c.deref.ensures.value) c.args.self.now.kept)), refl)
 
 pub loop-at-smaller : goal.loop-at-smaller
 loop-at-smaller c =
     let b = c.deref.result.now in
-    let s = left_step (mem b) (records b) c.loop-at.prev c.loop-at.at c.loop-at-test.true c.loop-at.invariant.1 in
-    let e = ap (λ t. length (trail (next (mem b)) (records b) t)) c.read-at-in-loop-at.ensures in
+    let a = c.in-Some.at in
+    let e : a ≡ next (mem b) c.loop-at.prev = c.in-Some.ensures.0 in
+    let s = left_step (mem b) (records b) c.loop-at.prev a c.in-Some.ensures.1 (subst (Left (mem b) (records b) c.loop-at.prev) (sym e) c.loop-at.invariant.1) in
+    let t = ap (λ t. length (trail (next (mem b)) (records b) t)) e in
     omega (arith, ap length s.2)
 
 pub loop-at-preserved : goal.loop-at-preserved
 loop-at-preserved c =
     let b = c.deref.result.now in
     let p = c.loop-at.prev in
-    let a = c.loop-at.at in
+    let a = c.in-Some.at in
     let k = c.args.number in
     let T = trail (next (mem b)) (records b) in
-    let s = left_step (mem b) (records b) p a c.loop-at-test.true c.loop-at.invariant.1 in
-    let e : c.read-at-in-loop-at.result ≡ next (mem b) a = c.read-at-in-loop-at.ensures in
+    let e : a ≡ next (mem b) p = c.in-Some.ensures.0 in
+    let s = left_step (mem b) (records b) p a c.in-Some.ensures.1 (subst (Left (mem b) (records b) p) (sym e) c.loop-at.invariant.1) in
     let n = c.from.ensures ∙ c.number_at.ensures in (
       s.0,
-      subst (Left (mem b) (records b) a) (sym e) s.1,
-      ap (λ t. last a (under (mem b) k (T t))) e
-          ∙ sym (ap (λ hs. last p (under (mem b) k hs)) s.2 ∙ ap (last p) (under_more (mem b) k a (T (next (mem b) a)) (omega arith)))
+      s.1,
+      sym (ap (λ t. last p (under (mem b) k (T t))) (sym e) ∙ ap (λ hs. last p (under (mem b) k hs)) s.2 ∙ ap (last p) (under_more (mem b) k a (T (next (mem b) a)) (omega arith)))
           ∙ c.loop-at.invariant.2,
     )

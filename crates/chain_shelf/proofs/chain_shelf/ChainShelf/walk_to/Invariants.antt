@@ -6,8 +6,8 @@ use Rattle.chain_shelf.proofs.chain_shelf.ChainShelf.walk_to.Given as goal
 abbrev pub invariant-loop-at : goal.invariant-loop-at
 invariant-loop-at l =
     (l.prev < records l.bytes)
-    × Left (mem l.bytes) (records l.bytes) l.prev l.at
-    × (last l.prev (under (mem l.bytes) l.number (trail (next (mem l.bytes)) (records l.bytes) l.at)) ≡ last 0 (under (mem l.bytes) l.number (heads l.bytes)))
+    × Left (mem l.bytes) (records l.bytes) l.prev (next (mem l.bytes) l.prev)
+    × (last l.prev (under (mem l.bytes) l.number (trail (next (mem l.bytes)) (records l.bytes) (next (mem l.bytes) l.prev))) ≡ last 0 (under (mem l.bytes) l.number (heads l.bytes)))
 
 abbrev pub decreases-loop-at : goal.decreases-loop-at
-decreases-loop-at l = length (trail (next (mem l.bytes)) (records l.bytes) l.at)
+decreases-loop-at l = length (trail (next (mem l.bytes)) (records l.bytes) (next (mem l.bytes) l.prev))
