@@ -27,7 +27,7 @@ pub struct Update {
 
 impl Update {
     /// A random update, also of an index that no book has.
-    pub fn any(heap: Global, random: &mut Random, prices: u32) -> Result<Update, AllocError> {
+    pub fn any(alloc: Global, random: &mut Random, prices: u32) -> Result<Update, AllocError> {
         let kind = if random.below(8) == 0 {
             Kind::Full
         } else {
@@ -35,10 +35,10 @@ impl Update {
         };
         let index = random.below(u32::from(BOOKS) + 2) as u16;
         let scale = random.below(10) as u8;
-        let mut points = Vec::new(heap);
-        for _ in 0..random.below(4) + 1 {
-            points.push(any_point(random, scale, prices))?;
-        }
+        let count = random.below(4) + 1;
+        let points = (0..count)
+            .map(|_| any_point(random, scale, prices))
+            .collect(alloc)?;
         Ok(Update {
             kind,
             index,
@@ -48,8 +48,8 @@ impl Update {
     }
 
     /// The bytes of its points.
-    pub fn bytes(&self, heap: Global) -> Result<Vec<u8>, AllocError> {
-        let mut bytes = Vec::new(heap);
+    pub fn bytes(&self, alloc: Global) -> Result<Vec<u8>, AllocError> {
+        let mut bytes = Vec::new(alloc);
         for point in &self.points {
             let level = point.level;
             bytes.extend_from_slice(&numerator(level.price, self.scale).to_be_bytes())?;
@@ -130,6 +130,7 @@ fn any_point(random: &mut Random, scale: u8, prices: u32) -> Point {
 }
 
 // The numerator of a price at a scale; prices are tenths of a dollar, and at scale 0 whole dollars.
+// Kept as a conversion by hand: the reader makes prices of numerators only.
 fn numerator(price: u64, scale: u8) -> u32 {
     let tenths = (price / TENTH % 100) as u32;
     match scale.checked_sub(1) {

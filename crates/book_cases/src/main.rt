@@ -46,17 +46,17 @@ struct Beside {
     volumes: Volumes,
     depth: usize,
     used_refreshes: u32,
-    whole_seen: u32,
+    whole_seen: usize,
     overflows: u32,
 }
 
 impl Beside {
-    fn new(heap: Global, depth: usize, room: usize) -> Result<Beside, AllocError> {
-        let mut kept = BTreeMap::new(heap);
-        let mut truth = BTreeMap::new(heap);
+    fn new(alloc: Global, depth: usize, room: usize) -> Result<Beside, AllocError> {
+        let mut kept = BTreeMap::new(alloc);
+        let mut truth = BTreeMap::new(alloc);
         for index in 1..=BOOKS {
-            kept.insert(index, plain::Book::new(heap))?;
-            truth.insert(index, Sides::new(heap))?;
+            kept.insert(index, plain::Book::new(alloc))?;
+            truth.insert(index, Sides::new(alloc))?;
         }
         let old = truth.clone()?;
         Ok(Beside {
@@ -65,7 +65,7 @@ impl Beside {
             old,
             old_number: 0,
             mark: 0,
-            volumes: Volumes::new(heap, room),
+            volumes: Volumes::new(alloc, room),
             depth,
             used_refreshes: 0,
             whole_seen: 0,
@@ -122,6 +122,11 @@ impl Beside {
         Ok(())
     }
 
+    fn count_whole(&mut self) {
+        let whole = self.kept.values().filter(|book| book.whole).count();
+        self.whole_seen = self.whole_seen.saturating_add(whole);
+    }
+
     // Keeps the truth of now, to be told again later.
     fn remember(&mut self, number: u32) -> Result<(), AllocError> {
         self.old = self.truth.clone()?;
@@ -135,7 +140,7 @@ type Sinks<'a, 'b, 'c, 'd> = Twin<BookKeeper<'a, 'b, 'c>, Tally<'d>>;
 // The proved sinks, what stands beside them, and what makes their events.
 #[derive(Drop)]
 struct Trial<'a, 'b, 'c, 'd> {
-    heap: Global,
+    alloc: Global,
     sinks: Sinks<'a, 'b, 'c, 'd>,
     beside: Beside,
     random: Random,
@@ -145,7 +150,7 @@ struct Trial<'a, 'b, 'c, 'd> {
 impl Trial<'_, '_, '_, '_> {
     // A message with points in its turn, told to both, or lost.
     fn data(&mut self, number: u32) -> anyhow::Result<()> {
-        let update = Update::any(self.heap, &mut self.random, self.prices)?;
+        let update = Update::any(self.alloc, &mut self.random, self.prices)?;
         self.beside.happen(&update)?;
         if self.random.below(20) == 0 {
             self.sinks.loss(number);
@@ -154,7 +159,7 @@ impl Trial<'_, '_, '_, '_> {
             return Ok(());
         }
         self.beside.hear(number, &update)?;
-        let bytes = update.bytes(self.heap)?;
+        let bytes = update.bytes(self.alloc)?;
         self.sinks.data(number, update.message(bytes.as_slice()));
         Ok(())
     }
@@ -183,10 +188,10 @@ impl Trial<'_, '_, '_, '_> {
             kind: Kind::Full,
             index,
             scale,
-            points: sides.points(self.heap)?,
+            points: sides.points(self.alloc)?,
         };
         self.beside.refresh(number, &update)?;
-        let bytes = update.bytes(self.heap)?;
+        let bytes = update.bytes(self.alloc)?;
         self.sinks.refresh(number, update.message(bytes.as_slice()));
         Ok(())
     }
@@ -208,24 +213,24 @@ impl Trial<'_, '_, '_, '_> {
 
     // Every book and every row, compared.
     fn compare(&mut self) -> anyhow::Result<()> {
-        let whole = same_books(self.heap, self.sinks.first(), &self.beside)?;
-        self.beside.whole_seen = self.beside.whole_seen.saturating_add(whole);
-        same_tally(self.sinks.second(), &self.beside.volumes)
+        same_books(self.alloc, self.sinks.first(), &self.beside)?;
+        same_tally(self.sinks.second(), &self.beside.volumes)?;
+        self.beside.count_whole();
+        Ok(())
     }
 }
 
-// Compares every book, and gives how many are whole.
+// Compares every book.
 fn same_books(
-    heap: Global,
+    alloc: Global,
     keeper: &BookKeeper<'_, '_, '_>,
     beside: &Beside,
-) -> anyhow::Result<u32> {
+) -> anyhow::Result<()> {
     ensure!(keeper.mark() == beside.mark, "mark");
     ensure!(
         keeper.book(0).is_none() && keeper.book(BOOKS + 1).is_none(),
         "a book too many"
     );
-    let mut whole = 0u32;
     for (index, owed) in &beside.kept {
         let Some(told) = keeper.book(*index) else {
             return Err(anyhow!("a book is missing"));
@@ -234,30 +239,29 @@ fn same_books(
             told.whole == owed.whole && told.touched == owed.touched,
             "whole or touched"
         );
-        let buys = owed.sides.best_first(heap, Side::Buy)?;
+        let buys = owed.sides.best_first(alloc, Side::Buy)?;
         ensure!(
             same_side(keeper, *index, Side::Buy, buys.as_slice()),
             "buys"
         );
-        let sells = owed.sides.best_first(heap, Side::Sell)?;
+        let sells = owed.sides.best_first(alloc, Side::Sell)?;
         ensure!(
             same_side(keeper, *index, Side::Sell, sells.as_slice()),
             "sells"
         );
-        if owed.whole {
-            whole = whole.saturating_add(1);
-            ensure!(
-                beside.truth.get(index) == Some(&owed.sides),
-                "a whole book is not the true one"
-            );
-        }
+        ensure!(
+            !owed.whole || beside.truth.get(index) == Some(&owed.sides),
+            "a whole book is not the true one"
+        );
     }
-    Ok(whole)
+    Ok(())
 }
 
-// Whether a keeper's side has these levels, from the best one on, and no other.
+// Whether a keeper's side has these levels, the best first, and no other. The first, and none behind the last, is also read by its place.
 fn same_side(keeper: &BookKeeper<'_, '_, '_>, index: u16, side: Side, owed: &[Level]) -> bool {
-    (0..=owed.len()).all(|place| keeper.level(index, side, place) == owed.get(place).copied())
+    keeper.levels(index, side) == owed
+        && keeper.level(index, side, 0) == owed.first().copied()
+        && keeper.level(index, side, owed.len()).is_none()
 }
 
 fn same_tally(tally: &Tally<'_>, owed: &Volumes) -> anyhow::Result<()> {
@@ -270,12 +274,12 @@ fn same_tally(tally: &Tally<'_>, owed: &Volumes) -> anyhow::Result<()> {
 }
 
 fn run_trial(rt: &HostRuntime, depth: u16, room: u16, prices: u32) -> anyhow::Result<()> {
-    let heap = rt.alloc();
+    let alloc = rt.alloc();
     let levels = usize::from(BOOKS) * usize::from(depth);
-    let mut books = vec![in heap; OLD_BOOK; usize::from(BOOKS)]?;
-    let mut buys = vec![in heap; OLD_LEVEL; levels]?;
-    let mut sells = vec![in heap; OLD_LEVEL; levels]?;
-    let mut rows = vec![in heap; Row {
+    let mut books = vec![in alloc; OLD_BOOK; usize::from(BOOKS)]?;
+    let mut buys = vec![in alloc; OLD_LEVEL; levels]?;
+    let mut sells = vec![in alloc; OLD_LEVEL; levels]?;
+    let mut rows = vec![in alloc; Row {
         index: 7,
         executed: 7
     }; usize::from(room)]?;
@@ -286,9 +290,9 @@ fn run_trial(rt: &HostRuntime, depth: u16, room: u16, prices: u32) -> anyhow::Re
         usize::from(depth),
     )?;
     let mut trial = Trial {
-        heap,
+        alloc,
         sinks: Twin::new(BookKeeper::new(tables), Tally::new(rows.as_mut_slice())),
-        beside: Beside::new(heap, usize::from(depth), usize::from(room))?,
+        beside: Beside::new(alloc, usize::from(depth), usize::from(room))?,
         random: Random::new(2_463_534_242),
         prices,
     };

@@ -37,10 +37,10 @@ pub struct Sides {
 }
 
 impl Sides {
-    pub fn new(heap: Global) -> Sides {
+    pub fn new(alloc: Global) -> Sides {
         Sides {
-            buys: Levels::new(heap),
-            sells: Levels::new(heap),
+            buys: Levels::new(alloc),
+            sells: Levels::new(alloc),
         }
     }
 
@@ -58,20 +58,20 @@ impl Sides {
     }
 
     /// The levels of a side, the best first.
-    pub fn best_first(&self, heap: Global, side: Side) -> Result<Vec<Level>, AllocError> {
+    pub fn best_first(&self, alloc: Global, side: Side) -> Result<Vec<Level>, AllocError> {
         match side {
-            Side::Buy => self.buys.values().rev().copied().collect(heap),
-            Side::Sell => self.sells.values().copied().collect(heap),
+            Side::Buy => self.buys.values().rev().copied().collect(alloc),
+            Side::Sell => self.sells.values().copied().collect(alloc),
         }
     }
 
     /// The points of a message that names the whole book.
-    pub fn points(&self, heap: Global) -> Result<Vec<Point>, AllocError> {
+    pub fn points(&self, alloc: Global) -> Result<Vec<Point>, AllocError> {
         let buys = self.buys.values();
         let sells = self.sells.values();
         buys.map(|level| Point::standing(Side::Buy, *level))
             .chain(sells.map(|level| Point::standing(Side::Sell, *level)))
-            .collect(heap)
+            .collect(alloc)
     }
 }
 
@@ -94,11 +94,11 @@ pub struct Book {
 }
 
 impl Book {
-    pub fn new(heap: Global) -> Book {
+    pub fn new(alloc: Global) -> Book {
         Book {
             whole: false,
             touched: 0,
-            sides: Sides::new(heap),
+            sides: Sides::new(alloc),
         }
     }
 
@@ -138,14 +138,11 @@ pub struct Volumes {
 }
 
 impl Volumes {
-    pub fn new(heap: Global, room: usize) -> Volumes {
+    pub fn new(alloc: Global, room: usize) -> Volumes {
         Volumes {
-            rows: BTreeMap::new(heap),
+            rows: BTreeMap::new(alloc),
             room,
-            counters: Counters {
-                missed: 0,
-                losses: 0,
-            },
+            counters: Counters::default(),
         }
     }
 

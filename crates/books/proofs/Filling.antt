@@ -29,9 +29,6 @@ module _ (t : Tables) (i : ℕ) (h : i < length t.books.now) where
   pub stops : (ps : List Point) → (get_or t.books.now i blank).whole ≡ false → changed_at (suc i) (filled t.depth ps) (tables_known t) ≡ tables_known t
   stops ps e = kept (tables_known t) i (filled t.depth ps) (not_whole t.depth ps _ (ap (λ b. b.whole) (book_is t i h blank) ∙ e))
 
-  pub ends : changed_at (suc i) (filled t.depth []) (tables_known t) ≡ tables_known t
-  ends = kept (tables_known t) i (filled t.depth []) refl
-
   pub goes_on : (u : Tables) (p : Point) (ps : List Point) → (get_or t.books.now i blank).whole ≡ true → tables_known u ≡ changed_at (suc i) (limited t.depth p.side p.level) (tables_known t)
       → changed_at (suc i) (filled t.depth ps) (tables_known u) ≡ changed_at (suc i) (filled t.depth (p ∷ ps)) (tables_known t)
   goes_on u p ps w e =

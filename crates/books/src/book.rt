@@ -23,6 +23,7 @@ pub(crate) enum Start {
 
 impl Book {
     /// A book of which nothing is known.
+    // Kept as a constant, with no `Default` beside it: that would be a second name for it, and say less.
     pub const UNKNOWN: Book = Book {
         whole: false,
         touched: 0,

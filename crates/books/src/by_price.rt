@@ -6,6 +6,7 @@ use crate::level::Level;
 use ladder::{Backwards, Rank};
 
 /// The rank of levels by price: the lower price comes first.
+// Kept beside the tally's rank of rows by index: it reads another field of another row, as another kind of number.
 #[derive(Drop)]
 pub struct ByPrice;
 

@@ -7,7 +7,7 @@ use ladder::Rank;
 use wire::{PricePoint, Side};
 
 /// A level: a price in billionths, the volume at it and its count of orders.
-#[derive(Clone, Copy, PartialEq, Eq, Debug)]
+#[derive(Clone, Copy, PartialEq, Eq, Debug, Default)]
 pub struct Level {
     pub price: u64,
     pub volume: u32,
@@ -23,6 +23,7 @@ pub(crate) struct Point {
 
 impl Point {
     // The level of a packet's point, its price in billionths.
+    // Kept as a function of two values: a `From` takes one, and the scale is the message's.
     pub(crate) fn named(point: PricePoint, scale: u8) -> Point
         ensures { result ≡ named scale point }
     {
@@ -40,6 +41,7 @@ impl Point {
 
 // One level told to a side, of whose rows `used` are used: a level of volume 0 is removed, and another is entered.
 // Gives how many are used then, or `None` where none is free.
+// Kept with the rows and their count as two parameters, as the ladder takes them.
 pub(crate) fn change<R: Rank<Row = Level, Key = u64>>(
     rows: &mut [Level],
     used: u16,

@@ -29,8 +29,8 @@ impl BookKeeper<'_, '_, '_> {
         })
     }
 
-    // The levels of one side of the book of an index.
-    fn levels(&self, index: u16, side: Side) -> &[Level]
+    /// The levels of one side of the book of an index, the best first; none where there is no book.
+    pub fn levels(&self, index: u16, side: Side) -> &[Level]
         ensures { result.now ≡ levels_shown side (book_of index (keeper_means self.now).books) }
     {
         match self.tables.spot(index) {

@@ -9,6 +9,7 @@ use std::ops::Range;
 use wire::Side;
 
 /// Tables whose sizes are checked: N books, and N times D levels of each side.
+// Kept as three lent slices: memory is fixed, so callers own the tables and may have each where they like.
 #[derive(Drop)]
 pub struct Tables<'a, 'b, 'c> {
     pub(crate) books: &'a mut [Book],
@@ -33,6 +34,7 @@ impl<'a, 'b, 'c> Tables<'a, 'b, 'c> {
     ghost use Rattle.books.specs.Laws.{SizesWorked};
 
     /// The tables, where their sizes are a keeper's. What they hold does not matter.
+    // Kept as a function of four values: a `TryFrom` takes one, and a struct of the four would be made only to be passed here.
     #[tactic(auto, using(crate::proofs::Rows::room))]
     pub fn check(
         books: &'a mut [Book],

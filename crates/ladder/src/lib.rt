@@ -12,6 +12,7 @@ use std::marker::PhantomData;
 
 /// A kind of ladder: what its rows are, the key of each row, and which of two keys comes first.
 /// Of two keys exactly one of these holds: the first is before the second, they are equal, the second is before the first.
+// Kept as a trait beside `Ord`: the laws of `Ord` leave keys equal that are not the same key, and by `Reverse` the two sides of a book would have keys of two types.
 pub trait Rank {
     type Row: Copy;
 

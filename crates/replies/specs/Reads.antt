@@ -1,13 +1,13 @@
 -- The text of books and of rows, each line ended.
-use Rattle.std.specs.Prelude.{ℕ, Bool, true, false, List, [], ◌++◌, Some, None, codes, decimal, Option}
-use Rattle.std.specs.List.{slice_get}
+use Rattle.std.specs.Prelude.{ℕ, Bool, true, false, List, ◌++◌, Some, None, codes, decimal, Option}
+use Rattle.std.specs.List.{flat_map}
 use Rattle.wire.specs.declared.point.Side.{Side}
 use Rattle.wire.specs.declared.point.Side.TheVariants.{Buy, Sell}
 use Rattle.books.specs.declared.level.Level.{Level}
 use Rattle.books.specs.declared.book.Book.{Book}
 use Rattle.books.specs.Entering.{Known}
 use Rattle.books.specs.Keepers.{shown, levels_shown}
-use Rattle.console.specs.Texts.{priced_level_text, lines}
+use Rattle.console.specs.Texts.{priced_level_text}
 
 abbrev pub whole_text : Bool → List ℕ
 whole_text true = codes "whole"
@@ -19,19 +19,15 @@ heading i b =
     codes "book " ++ (decimal i ++ (codes " " ++ (whole_text b.whole ++ (codes " touched=" ++ (decimal b.touched ++
     (codes " buys=" ++ (decimal b.buys ++ (codes " sells=" ++ decimal b.sells))))))))
 
-abbrev pub level_of : Side → Option Level → List ℕ
-level_of side None = []
-level_of side (Some l) = priced_level_text side l.price l.volume l.orders
-
--- a line for each of the first levels of a side, best first
-abbrev pub levels_text : Side → List Level → ℕ → List ℕ
-levels_text side ls n = lines (λ place. level_of side (slice_get ls place)) n
+-- a line for each level of a side, in their order
+abbrev pub levels_text : Side → List Level → List ℕ
+levels_text side ls = flat_map (λ l. priced_level_text side l.price l.volume l.orders ++ codes "\n") ls
 
 -- a book with its levels, buys first; `none` where there is no such book
 abbrev pub shown_text : ℕ → Option Known → Option Book → List ℕ
 shown_text i k None = codes "book " ++ (decimal i ++ codes " none\n")
 shown_text i k (Some b) =
-    heading i b ++ (codes "\n" ++ (levels_text Buy (levels_shown Buy k) b.buys ++ levels_text Sell (levels_shown Sell k) b.sells))
+    heading i b ++ (codes "\n" ++ (levels_text Buy (levels_shown Buy k) ++ levels_text Sell (levels_shown Sell k)))
 
 abbrev pub book_text : ℕ → Option Known → List ℕ
 book_text i k = shown_text i k (shown k)

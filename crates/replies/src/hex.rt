@@ -11,7 +11,7 @@ struct HexByte(u8);
 impl fmt::Display for HexByte {
     ghost output = { λ byte. Some (byte_text byte.0) };
 
-    #[tactic(auto, using(crate::proofs::HexBytes::two_digits))]
+    #[tactic(auto, using(std::proofs::lemmas::Fmt::hex_byte))]
     fn fmt<W: fmt::Write>(&self, f: &mut fmt::Formatter<W>) -> fmt::Result {
         let byte = self.0;
         write!(f, "{byte:02x}")

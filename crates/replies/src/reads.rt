@@ -1,7 +1,7 @@
 //! The text of books and of rows.
 ghost use Rattle.std.specs.Prelude.{◌≡◌, Some, IfOk, string_bytes};
-ghost use Rattle.books.specs.Keepers.{keeper_means, book_of, levels_shown};
-ghost use Rattle.replies.specs.Reads.{whole_text, heading, level_of, levels_text, book_text, row_text};
+ghost use Rattle.books.specs.Keepers.{keeper_means, book_of};
+ghost use Rattle.replies.specs.Reads.{whole_text, heading, levels_text, book_text, row_text};
 
 use books::{Book, BookKeeper, Level};
 use console::PricedLevel;
@@ -38,50 +38,25 @@ impl fmt::Display for Heading {
     }
 }
 
-// A level of a side, in a line that is not ended; nothing where there is none.
+// The levels of a side, printed a line for each.
 #[derive(Clone, Copy)]
-struct LevelLine {
+struct SideLines<'a> {
     side: Side,
-    level: Option<Level>,
+    levels: &'a [Level],
 }
 
-impl fmt::Display for LevelLine {
-    ghost output = { λ line. Some (level_of line.side line.level) };
+impl<'a> fmt::Display for SideLines<'a> {
+    ghost output = { λ lines. Some (levels_text lines.side lines.levels.now) };
 
     fn fmt<W: fmt::Write>(&self, f: &mut fmt::Formatter<W>) -> fmt::Result {
-        match self.level {
-            Some(level) => {
-                let line = PricedLevel {
-                    side: self.side,
-                    price: level.price,
-                    volume: level.volume,
-                    orders: level.orders,
-                };
-                write!(f, "{line}")
-            }
-            None => Ok(()),
-        }
-    }
-}
-
-// The first levels of a side of a book, printed a line for each.
-#[derive(Clone, Copy)]
-struct SideLines<'k, 'a, 'b, 'c> {
-    keeper: &'k BookKeeper<'a, 'b, 'c>,
-    index: u16,
-    side: Side,
-    count: u16,
-}
-
-impl<'k, 'a, 'b, 'c> fmt::Display for SideLines<'k, 'a, 'b, 'c> {
-    ghost output = { λ lines. Some (levels_text lines.side (levels_shown lines.side (book_of lines.index (keeper_means lines.keeper.now).books)) lines.count) };
-
-    // Kept as a walk over the places: the keeper gives a level by its place, and each place up to the count has a line.
-    fn fmt<W: fmt::Write>(&self, f: &mut fmt::Formatter<W>) -> fmt::Result {
-        let side = self.side;
-        for place in 0..self.count {
-            let level = self.keeper.level(self.index, side, place as usize);
-            let line = LevelLine { side, level };
+        let SideLines { side, levels } = *self;
+        for level in levels {
+            let line = PricedLevel {
+                side,
+                price: level.price,
+                volume: level.volume,
+                orders: level.orders,
+            };
             writeln!(f, "{line}")?;
         }
         Ok(())
@@ -101,16 +76,12 @@ pub fn book_text(
     };
     let heading = Heading { index, book };
     let buys = SideLines {
-        keeper,
-        index,
         side: Side::Buy,
-        count: book.buys,
+        levels: keeper.levels(index, Side::Buy),
     };
     let sells = SideLines {
-        keeper,
-        index,
         side: Side::Sell,
-        count: book.sells,
+        levels: keeper.levels(index, Side::Sell),
     };
     format!(in alloc; "{heading}\n{buys}{sells}")
 }

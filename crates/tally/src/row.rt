@@ -5,14 +5,16 @@ ghost use Rattle.ladder.proofs.Numbers.{rising_irreflexive, rising_transitive, r
 use ladder::Rank;
 
 /// A row: the executed volume of an index.
-#[derive(Clone, Copy, PartialEq, Eq, Debug)]
+#[derive(Clone, Copy, PartialEq, Eq, Debug, Default)]
 pub struct Row {
     pub index: u16,
     pub executed: u64,
 }
 
 /// The rank of rows: the lower index first.
-pub enum ByIndex {}
+// Kept beside the rank of levels by price: it reads another field of another row, as another kind of number.
+#[derive(Drop)]
+pub struct ByIndex;
 
 impl Rank for ByIndex {
     type Row = Row;

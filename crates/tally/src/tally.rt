@@ -11,7 +11,7 @@ use sink::Sink;
 use wire::{DeltaPoint, Message, Points, Reason};
 
 /// The two counts of a tally; each stops at the largest number of 32 bits.
-#[derive(Clone, Copy, PartialEq, Eq, Debug)]
+#[derive(Clone, Copy, PartialEq, Eq, Debug, Default)]
 pub struct Counters {
     /// How many executions found no free row.
     pub missed: u32,
@@ -35,14 +35,10 @@ impl<'a> Tally<'a> {
         ensures free { meant result ≡ fresh (length rows.old) }
         ensures ordered { InOrder (meant result) }
     {
-        let counters = Counters {
-            missed: 0,
-            losses: 0,
-        };
         Tally {
             rows,
             used: 0,
-            counters,
+            counters: Counters::default(),
         }
     }
 }
