@@ -76,10 +76,9 @@ impl<S: Sink, H: Shelf> Handover<S, H> {
         ensures held { result ≡ has (H.Shelf.means self.now.shelf).held (self.now.last + 1) }
         ensures small { result ≡ true → self.now.last + 1 < 2 ^ 32 }
     {
-        if self.last == u32::MAX {
-            return false;
-        }
-        self.shelf.holds(self.last + 1)
+        self.last
+            .checked_add(1)
+            .is_some_and(|next| self.shelf.holds(next))
     }
 
     // Hands over what is held, while the next number is.
