@@ -1,4 +1,3 @@
-pub mod Sources
 pub mod Offers
 pub mod Claims
 pub mod Shelved

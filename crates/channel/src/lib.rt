@@ -31,6 +31,7 @@ pub fn calls_follow<S: Sink>()
 {}
 
 /// Whatever follows a history keeps the promise, in its order, its last number and its books: a theorem.
+#[tactic(auto, using(crate::proofs::Kept::promised))]
 pub fn promise_stands<S: Sink>()
     ensures { PromiseStands S.Sink.step }
 {}
@@ -50,16 +51,19 @@ pub fn laws_stand<S: Sink>()
 {}
 
 /// Worked cases: a theorem.
+#[tactic(auto, using(crate::proofs::Table::table))]
 pub fn table_holds()
     ensures { Table }
 {}
 
 /// The promise is not empty: a run of real packets that earns it, with a whole book at its end: a theorem.
+#[tactic(auto, using(crate::proofs::Sample::sample_holds))]
 pub fn sample_holds()
     ensures { SampleHolds }
 {}
 
 /// Worked cases of each refusal, in their order, and of the buffers: a theorem.
+#[tactic(auto, using(crate::proofs::Cases::cases))]
 pub fn cases_hold()
     ensures { Cases }
 {}

@@ -7,11 +7,14 @@ ghost use Rattle.handover.specs.Words.{answer};
 use handover::ChannelFault;
 use wire::is_source;
 
+/// The longest source id, in bytes.
+const LONGEST: usize = 20;
+
 // Kept as an array with its length: a channel puts `Open` back whole, and an `ArrayVec` can't be copied.
 /// A source id: 1 to 20 nonzero bytes, which name the channel's owner in its requests.
 #[derive(Clone, Copy)]
 pub struct SourceId {
-    bytes: [u8; 20],
+    bytes: [u8; LONGEST],
     len: usize,
     ghost room: { length bytes ≡ 20 },
     ghost fits: { len ≤ 20 },
@@ -34,7 +37,7 @@ impl TryFrom<&[u8]> for SourceId {
         if !is_source(source) {
             return Err(ChannelFault::Source);
         }
-        let mut bytes = [0; 20];
+        let mut bytes = [0; LONGEST];
         write_front(&mut bytes, source);
         Ok(SourceId {
             bytes,

@@ -1,18 +1,13 @@
 -- Handing on turn by turn: what a loop has still to do leads where all would.
-use Rattle.std.proofs.Common.{◌≡◌, ℕ, zero, suc, ◌+◌, ◌-◌, ◌^◌, ◌<◌, ◌≤◌, Bool, true, false, cond, eqb, leb, List, [], ◌∷◌, length, take, drop, Some, None, Ok, Err, Option, sym, refl, ap, ◌∙◌, subst, ⊎_elim, arith, MatchOption}
+use Rattle.std.proofs.Common.{◌≡◌, ℕ, zero, suc, ◌+◌, ◌-◌, ◌^◌, ◌<◌, ◌≤◌, Bool, true, false, cond, eqb, leb, List, [], ◌∷◌, length, take, drop, Some, None, Ok, Option, sym, refl, ap, ◌∙◌, subst, ⊎_elim, arith, MatchOption}
 use Rattle.std.proofs.lemmas.Bool.{cond-true, cond-false, cases_Bool, le-leb}
 use Rattle.std.proofs.lemmas.Bool.Decides.{nat_tests}
-use Rattle.std.proofs.lemmas.List.{take_at, length-append, length-drop}
-use Rattle.wire.specs.declared.fault.ReadFault.{ReadFault}
-use Rattle.wire.specs.declared.message.Class.{Class}
-use Rattle.wire.specs.declared.message.Class.TheVariants as class
-use Rattle.wire.specs.Reading.{Msg, Pkt, reset, unavailable, mapping, full, delta, reading, class_of}
-use Rattle.shelf.specs.declared.PutFault.TheVariants.{Length, Held, Full}
-use Rattle.shelf.specs.Store.{Packets, Store, lookup, has, above, insert, remove, right, used, with_held, put_answer, put_after, take_answer, take_buffer, take_after, length_of, written, Up, Sized}
+use Rattle.std.proofs.lemmas.List.{take_at}
+use Rattle.shelf.specs.Store.{Packets, Store, lookup, has, above, remove, take_answer, take_buffer, take_after, length_of, written, Up, Sized}
 use Rattle.shelf.proofs.Kept.{held_is_a_map}
 use Rattle.sink.specs.Events.{Event}
-use Rattle.order.specs.Machine.{brings, range, read_content, turn}
-use Rattle.handover.specs.Flows.{Flow, data_as, message_of, without, with_packet, gap, hand, hands, hands_to, handing, handed_on}
+use Rattle.order.specs.Machine.{turn}
+use Rattle.handover.specs.Flows.{Flow, message_of, without, gap, hand, hands, handing, handed_on}
 use Rattle.order.proofs.Plain.{never, ok_same}
 
 pub length_removed : (h : Packets) (k : ℕ) → has h k ≡ true → suc (length (remove k h)) ≡ length h
@@ -47,10 +42,11 @@ module _ {M : Type 0} (step : Event → M → M) where
       go false e more = refl
 
   -- one turn, and the end
-  pub handed_on_more : (f : Flow M) → has f.shelf.held (f.last + 1) ≡ true → handed_on step (hand step f) ≡ handed_on step f
-  handed_on_more f e =
+  pub handed_on_more : (f g : Flow M) → g ≡ hand step f → has f.shelf.held (f.last + 1) ≡ true → handed_on step g ≡ handed_on step f
+  handed_on_more f g is e =
       let l = length_removed f.shelf.held (f.last + 1) e in
-      handing_same (length (remove (f.last + 1) f.shelf.held)) (length f.shelf.held) (hand step f) (omega arith) (omega arith)
+      ap (handed_on step) is
+      ∙ handing_same (length (remove (f.last + 1) f.shelf.held)) (length f.shelf.held) (hand step f) (omega arith) (omega arith)
       ∙ sym (cond-true (has f.shelf.held (f.last + 1)) _ _ e)
       ∙ handing_same (suc (length f.shelf.held)) (length f.shelf.held) f (omega arith) (omega arith)
 
@@ -58,12 +54,12 @@ module _ {M : Type 0} (step : Event → M → M) where
   handed_on_rest f e =
       handing_same (length f.shelf.held) (suc (length f.shelf.held)) f (omega arith) (omega arith) ∙ cond-false (has f.shelf.held (f.last + 1)) _ _ e
 
-  -- a range: one turn, and the end
-  pub hands_more : (e : ℕ) (f : Flow M) → f.last < e → hands_to step e (hand step f) ≡ hands_to step e f
-  hands_more e f l = let a : e - f.last ≡ suc (e - (f.last + 1)) = omega arith in sym (ap (λ k. hands step k f) a)
-
-  pub hands_end : (e : ℕ) (f : Flow M) → e ≤ f.last → hands_to step e f ≡ f
-  hands_end e f l = let a : e - f.last ≡ 0 = omega arith in ap (λ k. hands step k f) a
+  -- a range: one turn
+  pub hands_more : (e k j : ℕ) (f g : Flow M) → g ≡ hand step f → f.last < e → k ≡ e - g.last → j ≡ e - f.last → hands step k g ≡ hands step j f
+  hands_more e k j f g is l x y =
+      let left : k ≡ e - (f.last + 1) = x ∙ ap (λ (h : Flow M). e - h.last) is in
+      let more : j ≡ suc k = omega arith in
+      ap (hands step k) is ∙ sym (ap (λ n. hands step n f) more)
 
 -- a gap lies above last, and its end fits 32 bits
 pub gap_within : (l : ℕ) (h : Packets) (m : ℕ) → Up 0 h → Some m ≡ gap l h → (l < m) × (m < 2 ^ 32)
@@ -75,17 +71,6 @@ gap_within l h m up e = go (has h (l + 1)) e
         let x = subst (λ o. MatchOption o ((j : ℕ) → has h j ≡ true → j ≤ l) (λ m. (l < m) × (has h m ≡ true) × ((j : ℕ) → l < j → has h j ≡ true → m ≤ j))) (sym e)
         ((held_is_a_map h up).least l) in
         (x.0, held_small 0 m h up x.1)
-
--- a packet that a shelf took is on it
-pub put_kept : (s : Store) (k : ℕ) (p : List ℕ) (u : Unit {0}) → put_answer s k p ≡ Ok u → put_after s k p ≡ with_packet k p s
-put_kept s k p u e = go (right (length p)) (has s.held k) (leb (used s + s.price (length p)) s.total) e
-  where
-    go : (a b c : Bool) → cond a (cond b (Err Held) (cond c (Ok tt) (Err Full))) (Err Length) ≡ Ok u
-        → cond a (cond b s (cond c (with_held s (insert k p s.held)) s)) s ≡ with_held s (insert k p s.held)
-    go true true c e = absurd (never (cc))
-    go true false true e = refl
-    go true false false e = absurd (never (cc))
-    go false b c e = absurd (never (cc))
 
 -- a packet that is held has a packet's length
 pub held_sized : (h : Packets) (k : ℕ) (p : List ℕ) → Sized h → lookup h k ≡ Some p → (16 ≤ length p) × (length p ≤ 1500)
@@ -110,14 +95,6 @@ taken_some (Some p) buffer out len e w =
     let l : length p ≡ len = cc in
     ap (λ (x : List ℕ). Some x) (sym (ap (take len) w ∙ take_at p (drop (length p) buffer) len l))
 
-pub taken_none : (o : Option (List ℕ)) → ◌≡◌ {A = Option ℕ} None (length_of o) → o ≡ None
-taken_none None e = refl
-taken_none (Some p) e = absurd (never (cc))
-
-pub room_kept : (o : Option (List ℕ)) (buffer : List ℕ) → ((p : List ℕ) → o ≡ Some p → length p ≤ length buffer) → length (written o buffer) ≡ length buffer
-room_kept None buffer f = refl
-room_kept (Some p) buffer f = let l = f p refl in simp (length-append, length-drop) (omega arith)
-
 took_off : (o : Option (List ℕ)) (s t : Store) (k : ℕ) (b out : List ℕ) (len : ℕ) → lookup s.held k ≡ o → Some len ≡ length_of o → out ≡ written o b → t ≡ without k s
     → Sized s.held → Off s k b t out len
 took_off None s t k b out len e a w r z = absurd (never (cc))
@@ -138,29 +115,6 @@ off s t k b out len room a w r z =
     took_off (lookup s.held k) s t k b out len refl
     (ok_same (Some len) (length_of (lookup s.held k)) (a ∙ cond-true (leb 1500 (length b)) _ _ long))
     (w ∙ cond-true (leb 1500 (length b)) _ _ long) (r ∙ cond-true (leb 1500 (length b)) _ _ long) z
-
--- the message of a packet off the shelf: of data, of what is not data, and of what can't be read
-pub read_data : (p : List ℕ) (q : Pkt) → reading p ≡ Ok q → class_of q ≡ class.Data → message_of (Some p) ≡ Some q.message
-read_data p q e k = ap (λ r. data_as (read_content r)) e ∙ ap (λ x. data_as (brings x q)) k
-
-no_range : (m : Msg) → data_as (range m) ≡ None
-no_range (reset n) = refl
-no_range (unavailable b e) = refl
-no_range mapping = refl
-no_range (full i s ps) = refl
-no_range (delta i s ps) = refl
-
-pub read_other : (p : List ℕ) (q : Pkt) → reading p ≡ Ok q → (class_of q ≡ class.Data → ⊥) → message_of (Some p) ≡ None
-read_other p q e ne = ap (λ r. data_as (read_content r)) e ∙ go (class_of q) ne
-  where
-    go : (k : Class) → (k ≡ class.Data → ⊥) → data_as (brings k q) ≡ None
-    go class.Reset ne = refl
-    go class.Unavailable ne = no_range q.message
-    go class.Data ne = absurd (ne refl)
-    go class.Refresh ne = refl
-
-pub read_not : (p : List ℕ) (f : ReadFault) → reading p ≡ Err f → message_of (Some p) ≡ None
-read_not p f e = ap (λ r. data_as (read_content r)) e
 
 -- the next number was handed over
 pub handed : {M : Type 0} (step : Event → M → M) (f : Flow M) (s : Store) (m : M) (b : List ℕ) (o : Option (List ℕ)) → lookup f.shelf.held (f.last + 1) ≡ o

@@ -1,3 +1,3 @@
 pub mod Flows
-pub mod Verdicts
+pub mod Grows
 pub mod Missing

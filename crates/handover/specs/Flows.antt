@@ -35,10 +35,6 @@ with_packet n p s = with_held s (insert n p s.held)
 abbrev pub gap : ℕ → Packets → Option ℕ
 gap l h = cond (has h (l + 1)) None (above h l)
 
--- one for a number that is missing: above last, and not held
-abbrev pub one_missing : ℕ → Packets → ℕ → ℕ
-one_missing l h n = cond (nat_lt l n && not (has h n)) 1 0
-
 -- how many of `k` numbers from `n` on are above last and not held
 abbrev pub missing : ℕ → Packets → ℕ → ℕ → ℕ
 missing l h n zero = 0

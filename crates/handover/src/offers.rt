@@ -71,17 +71,18 @@ impl<S: Sink, H: Shelf> Handover<S, H> {
     }
 
     // Whether the next number is held.
+    #[tactic(auto, using(crate::proofs::Flows::past_largest))]
     pub(crate) fn holds_next(&self) -> bool
         ensures held { result ≡ has (H.Shelf.means self.now.shelf).held (self.now.last + 1) }
         ensures small { result ≡ true → self.now.last + 1 < 2 ^ 32 }
     {
-        if self.last == u32::MAX {
-            return false;
-        }
-        self.shelf.holds(self.last + 1)
+        self.last
+            .checked_add(1)
+            .is_some_and(|next| self.shelf.holds(next))
     }
 
     // Hands over what is held, while the next number is.
+    #[tactic(auto, using(crate::proofs::Flows::handed_on_more, crate::proofs::Flows::handed_on_rest))]
     fn drain(&mut self, scratch: &mut [u8])
         requires { 1500 ≤ length scratch.old }
         ensures { flow (S.Sink) (H.Shelf) self.new scratch.new ≡ handed_on S.Sink.step (flow (S.Sink) (H.Shelf) self.old scratch.old) }
@@ -93,6 +94,7 @@ impl<S: Sink, H: Shelf> Handover<S, H> {
 
     // Hands over every number up to the given one.
     // Kept as a while: handing over moves last on, so the number of a range would stand beside it unused.
+    #[tactic(auto, using(crate::proofs::Flows::hands_more))]
     fn hand_to(&mut self, end: u32, scratch: &mut [u8])
         requires { 1500 ≤ length scratch.old }
         ensures { flow (S.Sink) (H.Shelf) self.new scratch.new ≡ hands_to S.Sink.step end (flow (S.Sink) (H.Shelf) self.old scratch.old) }
@@ -182,6 +184,7 @@ impl<S: Sink, H: Shelf> Handover<S, H> {
     }
 
     /// Offers a packet: it is handed over, with what is held behind it, or kept on the shelf, or refused.
+    #[tactic(auto, using(crate::proofs::Grows::takes_grow))]
     pub fn offer(&mut self, packet: &[u8], scratch: &mut [u8]) -> Result<Taken, OfferFault>
         ensures answer { result ≡ flow_answer S.Sink.step (flow (S.Sink) (H.Shelf) self.old scratch.old) packet.now }
         ensures after { flow (S.Sink) (H.Shelf) self.new scratch.new ≡ flow_after S.Sink.step (flow (S.Sink) (H.Shelf) self.old scratch.old) packet.now }

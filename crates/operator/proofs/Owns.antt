@@ -68,9 +68,6 @@ module _ {M : Type 0} (step : Event → M → M) where
       ap (λ r. on_ok r (λ u. begun_at step first (record { number = n; source = source; last = 0; out = None; claims = 0 }) c) c) refused in
       ap (λ (x : State M). settles x.opened k) same ∙ s
 
-  pub made_own : (c : State M) (h : Option Claim) (n : ℕ) (source : List ℕ) (first : ℕ) → IsOwn c h → IsOwn (make_after step c n source first) h
-  made_own c h n source first o = is_own (make_after step c n source first) h (own_make c h n source first (owns c h o))
-
   -- no restart is taken where a claim is out
   restart_out : (o : Opened) (n : ℕ) (y : Option Claim) (k : Claim) → either y false (same_claim k) ≡ true
       → cond {A = Result Opened ChannelFault} (is_some y) (Err Owed) (cond (eqb n 0) (Err Zero) (Ok o)) ≡ Err Owed

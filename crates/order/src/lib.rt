@@ -10,26 +10,31 @@ ghost use Rattle.books.specs.Keepers.{keeper_step};
 use sink::Sink;
 
 /// The order of every earned history, number by number: a theorem.
+#[tactic(auto, using(crate::proofs::Order::in_order))]
 pub fn order_stands()
     ensures { OrderStands }
 {}
 
 /// The last number of every earned history: a theorem.
+#[tactic(auto, using(crate::proofs::Order::reaches))]
 pub fn last_stands()
     ensures { LastStands }
 {}
 
 /// Since a restart no number is taken as data twice: a theorem.
+#[tactic(auto, using(crate::proofs::Order::once))]
 pub fn taken_once()
     ensures { TakenOnce }
 {}
 
 /// What waits is in order of its numbers, each once: a theorem.
+#[tactic(auto, using(crate::proofs::Rises::waiting_rises))]
 pub fn waiting_rises()
     ensures { WaitingRises }
 {}
 
 /// The whole books of every earned history, in whatever of a sink moves as a keeper: a theorem.
+#[tactic(auto, using(crate::proofs::Books::books_right))]
 pub fn books_stand<S: Sink>()
     ensures { BooksStand S.Sink.step }
 {}

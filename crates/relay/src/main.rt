@@ -8,7 +8,7 @@ ghost use Rattle.relay.specs.Relays.{Relayed};
 
 use channel::{Channel, ChannelFault};
 use operator::{Action, Desk, Reply};
-use shelf::Shelf;
+use shelf::{LONGEST, Shelf};
 use sink::Sink;
 use slot_shelf::SlotShelf;
 use std::alloc::{AllocError, Global};
@@ -34,9 +34,9 @@ fn relay<S: Sink, H: Shelf>(
 }
 
 // A symbol mapping, which is data: its number, and a body that nobody reads.
-fn mapping(heap: Global, number: u8) -> Result<Action, AllocError> {
+fn mapping(alloc: Global, number: u8) -> Result<Action, AllocError> {
     let head = [0, 28, 0, 35, 0, 0, 0, number, 0, 0, 0, 0, 115, 1, 1, 1];
-    let mut packet = head.to_vec(heap)?;
+    let mut packet = head.to_vec(alloc)?;
     packet.resize(30, 0)?;
     Ok(Action::Offer(packet))
 }
@@ -64,14 +64,14 @@ fn show<S: Sink, H: Shelf>(rt: &HostRuntime, desk: &mut Desk<S, H>) -> anyhow::R
     requires { IsOwn (state (S.Sink) (H.Shelf) desk.old.channel) desk.old.hand }
     ensures { IsOwn (state (S.Sink) (H.Shelf) desk.new.channel) desk.new.hand }
 {
-    let heap = rt.alloc();
+    let alloc = rt.alloc();
     let first = [
-        mapping(heap, 1)?,
-        mapping(heap, 3)?,
+        mapping(alloc, 1)?,
+        mapping(alloc, 3)?,
         Action::Claim { time: 0 },
     ];
-    let second = [mapping(heap, 2)?, mapping(heap, 2)?, Action::Settle];
-    let mut buffer = [0; 1500];
+    let second = [mapping(alloc, 2)?, mapping(alloc, 2)?, Action::Settle];
+    let mut buffer = [0; LONGEST];
     let mut replies = [Reply::NoClaim; 3];
     if relay(desk, &first, &second, &mut buffer, &mut replies).is_ok() {
         for reply in replies {

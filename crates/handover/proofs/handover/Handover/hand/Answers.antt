@@ -1,4 +1,4 @@
-use Rattle.std.proofs.Common.{◌≡◌, ◌+◌, take, Some, Ok, ap, ◌∙◌, rules}
+use Rattle.std.proofs.Common.{◌≡◌, ◌+◌, take, Some, Ok, ap, ◌∙◌}
 use native.Mathlib.Nat.{sub-zero}
 use Rattle.shelf.specs.Store.{take_answer}
 use Rattle.order.specs.Machine.{turn}
@@ -6,14 +6,6 @@ use Rattle.handover.specs.Flows.{message_of}
 use Rattle.handover.specs.Handovers.{flow}
 use Rattle.handover.proofs.Flows.{off, handed}
 use Rattle.handover.proofs.handover.Handover.hand.Goals as goal
-
-pub slice_bounds-hand_packet-end : goal.slice_bounds-hand_packet-end
-slice_bounds-hand_packet-end g c =
-    let t = c.in-Ok-Some.ensures in
-    let a : Ok (Some c.in-Ok-Some.len) ≡ take_answer (g.H.Shelf.means c.args.self.now.shelf) (c.args.self.now.last + 1) c.args.scratch.now = cc t.answer in
-    let x = off (g.H.Shelf.means c.args.self.now.shelf) (g.H.Shelf.means c.take.new.self) (c.args.self.now.last + 1) c.args.scratch.now c.take.new.buffer c.in-Ok-Some.len
-    c.requires.room a t.buffer t.after (g.met.H.Shelf.lawful c.args.self.now.shelf).sized in
-    let w = x.within in search rules
 
 pub returns-in-Ok-Some : goal.returns-in-Ok-Some
 returns-in-Ok-Some g c =
