@@ -54,6 +54,7 @@ impl Beside {
     fn new(alloc: Global, depth: usize, room: usize) -> Result<Beside, AllocError> {
         let mut kept = BTreeMap::new(alloc);
         let mut truth = BTreeMap::new(alloc);
+        // Kept as a loop: it fills two maps.
         for index in 1..=BOOKS {
             kept.insert(index, plain::Book::new(alloc))?;
             truth.insert(index, Sides::new(alloc))?;

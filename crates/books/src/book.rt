@@ -6,7 +6,7 @@ ghost use Rattle.books.specs.Entering.{known, taken, begun};
 /// A book: whether it is whole, the number of the data that last touched it since the last loss or restart, and the counts of its levels.
 #[derive(Clone, Copy, PartialEq, Eq, Debug)]
 pub struct Book {
-    // Kept as a flag: a book is a row of a table that callers lend, and one that is not whole still shows its touched number.
+    // Kept as a flag: callers lend tables of books, so an Option of the counts would ask more of those who make one.
     pub whole: bool,
     pub touched: u32,
     pub buys: u16,

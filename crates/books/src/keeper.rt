@@ -11,6 +11,7 @@ use sink::Sink;
 use wire::{DeltaPoint, Message, Points, PricePoint};
 
 /// A keeper: the books of a channel, and the loss mark, which is the last number that may have been missed.
+// Kept with `keeper_means` in the contracts: it is the meaning that the trait of sinks names; an `impl Model` would be a second one.
 #[derive(Drop)]
 pub struct BookKeeper<'a, 'b, 'c> {
     pub(crate) tables: Tables<'a, 'b, 'c>,

@@ -10,6 +10,7 @@ use wire::Side;
 
 /// Tables whose sizes are checked: N books, and N times D levels of each side.
 // Kept as three lent slices: memory is fixed, so callers own the tables and may have each where they like.
+// Kept with `tables_known` in the contracts: they speak of the tables' own rows and of what is known of them in one line, and a Model would hide the rows.
 #[derive(Drop)]
 pub struct Tables<'a, 'b, 'c> {
     pub(crate) books: &'a mut [Book],

@@ -8,9 +8,10 @@ ghost use Rattle.chain_shelf.specs.Sounds.{store_lawful};
 use crate::packets::{free_all, lay_packet, price_of, unlink};
 use crate::records::{BODY, HEAD, LAST, NEXT, SIZE, USED, copy, link_at, number_at, read};
 use crate::region::{RECORD, Region};
-use shelf::{LONGEST, PutFault, SHORTEST, Shelf, TakeFault};
+use shelf::{LONGEST, PutFault, Shelf, TakeFault, is_length};
 
 /// A shelf in a region: the records of each packet and the free records are chains.
+// Kept with `held` in the contracts: they speak of records beside the packets that they hold, and the trait of shelves names the meaning.
 #[derive(Drop)]
 pub struct ChainShelf {
     region: Vec<u8>,
@@ -29,6 +30,7 @@ impl ChainShelf {
     }
 
     // The first record of the last packet whose number is below the given one, or the head: a walk from the head.
+    // Kept as a loop: tried with `successors` and `take_while`, the proof stops at what `last` requires, that each step finds a record of the region and that the chain ends.
     fn walk_to(&self, number: u64) -> u16
         ensures { Before self.now.region.items number result }
     {
@@ -54,7 +56,7 @@ impl ChainShelf {
         }
     }
 
-    // That `prev` comes before a number is asked of the four functions below, and not a fact of a type: such a value would hold the bytes lent, and put and take write them.
+    // Kept as a number: that `prev` comes before a number is asked of the four functions below, and not a fact of a type: such a value would hold the bytes lent, and put and take write them.
 
     // Whether the packet behind the one at `prev` has the number.
     fn stands_behind(&self, prev: u16, number: u32) -> bool
@@ -125,7 +127,7 @@ impl Shelf for ChainShelf {
     ghost lawful = { λ s. store_lawful s.region.items s.kept };
 
     fn put(&mut self, number: u32, packet: &[u8]) -> Result<(), PutFault> {
-        if !(SHORTEST..=LONGEST).contains(&packet.len()) {
+        if !is_length(packet.len()) {
             return Err(PutFault::Length);
         }
         let prev = self.seek(u64::from(number));

@@ -8,7 +8,7 @@ use crate::records::{
     BODY, END, HEAD, LAST, LINK, MORE, NEXT, NUMBER, SIZE, USED, fill, lay_in, link_at, read, write,
 };
 use crate::region::RECORD;
-use shelf::{LONGEST, SHORTEST};
+use shelf::is_length;
 
 /// The bytes of a packet in its first record.
 const FIRST_ROOM: usize = RECORD - BODY;
@@ -53,6 +53,7 @@ fn end_of(bytes: &[u8], at: u16, first: u16) -> u16
     }
 }
 
+// Kept as numbers, here and below: each link is written on as it was read, or is known to lead on.
 /// Lays a packet into the first free records, behind the packet whose first record is `prev`.
 pub(crate) fn lay_packet(bytes: &mut [u8], prev: u16, number: u32, packet: &[u8])
     requires prev { prev < records bytes.old }
@@ -112,7 +113,7 @@ pub fn price_of(length: usize) -> u32
     ensures least { PriceLaw }
     ensures worked { PricesWorked }
 {
-    if !(SHORTEST..=LONGEST).contains(&length) {
+    if !is_length(length) {
         return 0;
     }
     u32::from(span_of(length))

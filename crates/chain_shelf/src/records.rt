@@ -4,7 +4,7 @@ ghost use Rattle.chain_shelf.specs.Records.{mem, records, word, link, number, cu
 
 use crate::region::RECORD;
 
-// That an index is one of the region's records is asked of each call, and not a fact of a type: an index is a number that was read from these very bytes, and they change beneath it.
+// Kept as a number: that an index is one of the region's records is asked of each call, and not a fact of a type: an index is a number that was read from these very bytes, and they change beneath it.
 
 /// The record that heads the chains.
 pub(crate) const HEAD: u16 = 0;
@@ -37,6 +37,7 @@ pub(crate) const LAST: usize = 4;
 pub(crate) const USED: usize = 6;
 
 // Kept as an index and an offset, not as one value of both: each call names a record and one of the fields above, and no value of both would live longer than the call.
+// Kept with the bound of an offset asked of a call: it is a constant wherever it is written, so the check finds its bound by itself.
 
 /// The number in two bytes of a record, the low one first.
 pub(crate) fn read(bytes: &[u8], index: u16, offset: usize) -> u16
@@ -95,6 +96,7 @@ pub(crate) fn fill(bytes: &mut [u8], index: u16, offset: usize, part: &[u8]) -> 
         return index;
     }
     lay_in(bytes, index, offset, &part[..room]);
+    // Kept as a number, not an Option, here and in `copy`: the chain leads on.
     let after = read(bytes, index, LINK);
     fill(bytes, after, MORE, &part[room..])
 }
@@ -120,6 +122,7 @@ pub(crate) fn copy(bytes: &[u8], index: u16, offset: usize, buffer: &mut [u8]) -
 }
 
 /// The number of the packet whose first record is given.
+// Kept beside `read`: `from_le_bytes` is a function of each number's own type, and one of both would need a trait of numbers.
 pub(crate) fn number_at(bytes: &[u8], index: u16) -> u32
     requires { index < records bytes.now }
     ensures { result ≡ number (mem bytes.now) index }

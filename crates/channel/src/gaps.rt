@@ -23,6 +23,7 @@ fn claim_end(last: u32, least: u32) -> u32
     least.saturating_sub(1).min(last.saturating_add(MOST_ASKED))
 }
 
+// Kept as steps beside the calls, as a making and a restart are.
 impl<S: Sink, H: Shelf> Channel<S, H> {
     // Whether a claim is given, and if so of which gap: its end lies below the least number held above last.
     fn may_claim(&self, buffer: &[u8]) -> Result<(Open, u32), ChannelFault>

@@ -1,5 +1,5 @@
 -- The text of answers.
-use Rattle.std.specs.Prelude.{ℕ, zero, suc, ◌+◌, ◌/◌, ◌%◌, List, [], ◌∷◌, ◌++◌, length, Ok, Err, codes, decimal, Result}
+use Rattle.std.specs.Prelude.{ℕ, ◌+◌, ◌/◌, ◌%◌, List, [], ◌∷◌, ◌++◌, length, Ok, Err, codes, decimal, Result}
 use Rattle.std.specs.List.{flat_map}
 use Rattle.wire.specs.declared.fault.ReadFault.{ReadFault}
 use Rattle.wire.specs.declared.point.Side.{Side}
@@ -55,11 +55,6 @@ heading_of (delta index scale ps) q = update_text (codes "delta") q index scale 
 
 abbrev pub heading : Pkt → List ℕ
 heading q = heading_of q.message q
-
--- a line for each index below a bound
-abbrev pub lines : (ℕ → List ℕ) → ℕ → List ℕ
-lines f zero = []
-lines f (suc n) = lines f n ++ (f n ++ codes "\n")
 
 -- a line for each point that a line says so
 abbrev pub point_lines : {P : Type 0} → (P → List ℕ) → List P → List ℕ

@@ -22,7 +22,7 @@ trait Line: Point {
         ensures { DisplaysOnOk W.Write.write_str_gives f.old result (Some (said scale self.now)) f.new };
 }
 
-// Kept beside the like function of `books`: the levels are of two types, and neither crate stands on the other.
+// Kept beside the like function of `books`, which parts a level from its side: a row of a book has no use for a side, and a line has.
 fn priced(point: PricePoint, scale: u8) -> PricedLevel
     ensures { result ≡ record { side = point.side; price = price point.numerator scale; volume = point.volume; orders = point.orders } }
 {
@@ -101,6 +101,7 @@ impl<'a> fmt::Display for MessageLines<'a> {
 }
 
 /// What the reader makes of a packet: a line, and for an update a line for each point.
+// Kept as a function: what it writes is a result of the reader, a type of the language's, and each part of it prints itself.
 pub fn read_answer(alloc: Global, packet: &[u8]) -> Result<String, AllocError>
     ensures { IfOk result (λ t. string_bytes t ≡ reading_text (reading packet.now)) }
 {

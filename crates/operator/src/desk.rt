@@ -23,6 +23,7 @@ fn place(replies: &mut [Reply], i: usize, reply: Reply)
     }
 }
 
+// Kept apart from the buffer: a struct of both, lent for one call, leaves the checker without the tie between its fields and what was lent.
 // Kept without a Model, as a channel is: what a desk has takes the meanings of the sink and the shelf, which would bound the type's parameters, and so narrow it.
 // Kept with `IsOwn` in clauses: as an invariant of the type, `new` would ask more, for any channel and any claim make a desk.
 /// A channel and the claim in hand. A claim can't be let go, so neither can a desk: it is closed or taken apart.

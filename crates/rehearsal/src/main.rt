@@ -11,7 +11,7 @@ use channel::Channel;
 use operator::Desk;
 use script::{Command, ParseError, Setup, Source, open_script, parse};
 use session::{Board, answer, answer_alone, open_shelf, table_sizes};
-use shelf::{Quota, Shelf};
+use shelf::{LONGEST, Quota, Shelf};
 use sink::Twin;
 use std::alloc::{AllocError, Global};
 use std::env;
@@ -22,21 +22,6 @@ use tally::{Row, Tally};
 mod help;
 
 use help::HELP;
-
-// The longest packet, which an offer needs as scratch.
-const SCRATCH: usize = 1500;
-
-// A level and a row that are not in use yet.
-const NO_LEVEL: Level = Level {
-    price: 0,
-    volume: 0,
-    orders: 0,
-};
-
-const NO_ROW: Row = Row {
-    index: 0,
-    executed: 0,
-};
 
 // What `parse` makes of a line.
 type Parsed = Result<Option<Command>, ParseError>;
@@ -102,7 +87,7 @@ impl Script<'_> {
     {
         let rt = self.rt;
         let alloc = rt.alloc();
-        let mut scratch = [0; SCRATCH];
+        let mut scratch = [0; LONGEST];
         for line in self.lines.by_ref() {
             match parse(alloc, line?.as_slice()) {
                 Ok(Some(Command::Setup(setup))) => return Ok(Some(setup)),
@@ -124,9 +109,9 @@ impl Script<'_> {
         let alloc = self.rt.alloc();
         let sizes = table_sizes(setup);
         let mut books = vec![in alloc; Book::UNKNOWN; sizes.books]?;
-        let mut buys = vec![in alloc; NO_LEVEL; sizes.levels]?;
-        let mut sells = vec![in alloc; NO_LEVEL; sizes.levels]?;
-        let mut rows = vec![in alloc; NO_ROW; sizes.rows]?;
+        let mut buys = vec![in alloc; Level::default(); sizes.levels]?;
+        let mut sells = vec![in alloc; Level::default(); sizes.levels]?;
+        let mut rows = vec![in alloc; Row::default(); sizes.rows]?;
         let tables = Tables::check(
             books.as_mut_slice(),
             buys.as_mut_slice(),

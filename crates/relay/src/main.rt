@@ -42,6 +42,7 @@ fn mapping(alloc: Global, number: u8) -> Result<Action, AllocError> {
 }
 
 // What a reply says, in a word and its numbers.
+// Kept beside the console's line of a reply: that has the request's bytes too, and a relay stands on no console.
 #[derive(Clone, Copy)]
 struct Shown(Reply);
 
@@ -73,19 +74,15 @@ fn show<S: Sink, H: Shelf>(rt: &HostRuntime, desk: &mut Desk<S, H>) -> anyhow::R
     let second = [mapping(alloc, 2)?, mapping(alloc, 2)?, Action::Settle];
     let mut buffer = [0; LONGEST];
     let mut replies = [Reply::NoClaim; 3];
-    if relay(desk, &first, &second, &mut buffer, &mut replies).is_ok() {
-        for reply in replies {
-            println!(rt; "{}", Shown(reply))?;
-        }
+    relay(desk, &first, &second, &mut buffer, &mut replies)?;
+    for reply in replies {
+        println!(rt; "{}", Shown(reply))?;
     }
     Ok(())
 }
 
 fn main(rt: HostRuntime) -> anyhow::Result<()> {
-    let mut rows = [Row {
-        index: 0,
-        executed: 0,
-    }; 4];
+    let mut rows = [Row::default(); 4];
     let channel = Channel::new(Tally::new(&mut rows), SlotShelf::new());
     let mut desk = Desk::new(channel, None);
     let end = show(&rt, &mut desk);

@@ -63,6 +63,7 @@ impl<'a> fmt::Display for SideLines<'a> {
     }
 }
 
+// Kept as a function: there may be no such book, and what it joins prints itself.
 /// The book of an index with its levels, buys first and the best first, a line for each; or that there is none.
 pub fn book_text(
     alloc: Global,

@@ -14,6 +14,7 @@ pub enum ShelfKind {
 pub struct Setup {
     pub shelf: ShelfKind,
     /// The least limit of the quotas on the shelf; the largest number where there is none.
+    // Kept as a number, not an Option: a quota of the largest number is the shelf itself.
     pub limit: u32,
     pub books: u32,
     /// The levels of a side of a book.

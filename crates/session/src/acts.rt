@@ -10,6 +10,8 @@ use shelf::Shelf;
 use sink::Sink;
 use std::alloc::{AllocError, Global};
 
+// Kept with a desk and a buffer, both lent: a struct of the two, made for one call, leaves the checker without the tie between its fields and what was lent.
+
 // Runs one action.
 fn run_one<S: Sink, H: Shelf>(desk: &mut Desk<S, H>, buffer: &mut [u8], action: Action) -> Reply
     ensures reply { result ≡ reply_to S.Sink.step action (seen (S.Sink) (H.Shelf) desk.old buffer.old) }

@@ -32,6 +32,7 @@ fn reply_alone(alloc: Global, command: Command) -> Result<String, AllocError>
 }
 
 // The answer to a command at a desk.
+// Kept with the five calls said in two enums: `script` reads words and stands on no operator.
 fn reply<H: Shelf>(
     alloc: Global,
     desk: &mut Desk<Board<'_, '_, '_, '_>, H>,

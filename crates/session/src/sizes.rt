@@ -42,7 +42,7 @@ pub fn open_shelf(
     }
 }
 
-// Kept with sizes of 0 for what no keeper has, where a `Result` would be plainer: this function can't fail, and the keeper's own test refuses such tables.
+// Kept with sizes of 0 for what no keeper has, not a `Result`: a public function that can't fail may not begin to, and the keeper's own test refuses such tables.
 /// The sizes of the tables of a setup. Where no keeper has such tables, all sizes are 0, which no keeper has either.
 pub fn table_sizes(setup: Setup) -> Sizes
     ensures { result ≡ sizes_of setup }

@@ -2,7 +2,7 @@
 #![tactic(auto)]
 
 ghost use Rattle.std.specs.Prelude.{◌≡◌, [], Some};
-ghost use Rattle.shelf.specs.Store.{Store, Lawful, has, above, used, priced, with_held, put_answer, put_after, take_answer, take_buffer, take_after, put_fault_number, take_fault_number, refused_text};
+ghost use Rattle.shelf.specs.Store.{Store, Lawful, has, above, used, priced, with_held, put_answer, put_after, take_answer, take_buffer, take_after, put_fault_number, take_fault_number, refused_text, right};
 ghost use Rattle.shelf.specs.Laws.{HeldIsAMap, QuotasJoin, WidestQuota};
 
 use std::error::Error;
@@ -17,6 +17,13 @@ pub const SHORTEST: usize = 16;
 
 /// The bytes of the longest packet.
 pub const LONGEST: usize = 1500;
+
+/// Whether a packet may have a length.
+pub fn is_length(length: usize) -> bool
+    ensures { result ≡ right length }
+{
+    (SHORTEST..=LONGEST).contains(&length)
+}
 
 /// Why a packet was not put on a shelf.
 #[derive(Clone, Copy, PartialEq, Eq, Debug)]

@@ -3,7 +3,7 @@ ghost use Rattle.std.specs.Prelude.{◌≡◌};
 ghost use Rattle.shelf.specs.Store.{capped};
 ghost use Rattle.shelf.specs.Quotas.{quota_lawful};
 
-use crate::{LONGEST, PutFault, SHORTEST, Shelf, TakeFault};
+use crate::{LONGEST, PutFault, Shelf, TakeFault, is_length};
 
 /// A quota is a shelf that spends no more than a limit of units of the shelf that it holds.
 #[derive(Drop)]
@@ -36,8 +36,7 @@ impl<S: Shelf> Shelf for Quota<S> {
     ghost lawful = { λ q. quota_lawful q.limit _ (S.Shelf.lawful q.below) };
 
     fn put(&mut self, number: u32, packet: &[u8]) -> Result<(), PutFault> {
-        let right = (SHORTEST..=LONGEST).contains(&packet.len());
-        if right && !self.holds(number) {
+        if is_length(packet.len()) && !self.holds(number) {
             let most = self.limit.max(self.price(LONGEST));
             if self.price(packet.len()) > most.saturating_sub(self.used()) {
                 return Err(PutFault::Full);

@@ -57,6 +57,7 @@ impl Model {
         self.price_of(length).unwrap_or(0)
     }
 
+    // Kept as a fold: `sum` would owe that the units fit, which the model doesn't know of its packets.
     pub fn used(&self) -> u64 {
         self.held.values().fold(0, |units: u64, packet| {
             units.saturating_add(self.price(packet.len()))

@@ -6,7 +6,7 @@ ghost use Rattle.shelf.specs.Store.{has, insert, remove, lookup, right, used, wi
 ghost use Rattle.slot_shelf.specs.Slots.{slots_held, slots_sound, slot_store, empty_store, FreeAt, HeldAt};
 ghost use Rattle.slot_shelf.specs.Shelved.{slots_lawful};
 
-use shelf::{LONGEST, PutFault, SHORTEST, Shelf, TakeFault};
+use shelf::{LONGEST, PutFault, Shelf, TakeFault, is_length};
 
 mod slot;
 mod table;
@@ -15,6 +15,7 @@ use slot::Slot;
 use table::{Place, SLOTS, Table};
 
 /// A shelf of sixteen slots. Each packet costs one unit, the slot that it lies in.
+// Kept with `slots_held` in the contracts: they speak of single slots beside what all of them hold, and the trait of shelves names the meaning.
 #[derive(Drop)]
 pub struct SlotShelf {
     slots: Table<Slot>,
@@ -98,7 +99,7 @@ impl Shelf for SlotShelf {
     ghost lawful = { λ s. slots_lawful s.slots.items s.sixteen s.sound };
 
     fn put(&mut self, number: u32, packet: &[u8]) -> Result<(), PutFault> {
-        if !(SHORTEST..=LONGEST).contains(&packet.len()) {
+        if !is_length(packet.len()) {
             return Err(PutFault::Length);
         }
         if self.holds(number) {
@@ -131,7 +132,7 @@ impl Shelf for SlotShelf {
     }
 
     fn price(&self, length: usize) -> u32 {
-        u32::from((SHORTEST..=LONGEST).contains(&length))
+        u32::from(is_length(length))
     }
 
     #[tactic(auto, using(crate::proofs::Shelved::units_count))]
