@@ -1,4 +1,4 @@
-use Rattle.rehearsal.proofs.Script.serve.Given as goal
+use Rattle.handler.proofs.Script.serve.Given as goal
 
 -- what is served keeps what it is to keep
 abbrev pub invariant-loop-line : goal.invariant-loop-line
