@@ -160,14 +160,12 @@ impl Volumes {
     }
 
     fn add_one(&mut self, index: u16, quantity: u64) -> Result<(), AllocError> {
-        match self.rows.get(&index).copied() {
-            Some(before) => {
-                self.rows.insert(index, before.saturating_add(quantity))?;
-            }
-            None if self.rows.len() < self.room => {
-                self.rows.insert(index, quantity)?;
-            }
-            None => self.counters.missed = self.counters.missed.saturating_add(1),
+        if let Some(row) = self.rows.get_mut(&index) {
+            *row = row.saturating_add(quantity);
+        } else if self.rows.len() < self.room {
+            self.rows.insert(index, quantity)?;
+        } else {
+            self.counters.missed = self.counters.missed.saturating_add(1);
         }
         Ok(())
     }

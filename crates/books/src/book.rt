@@ -6,7 +6,7 @@ ghost use Rattle.books.specs.Entering.{known, taken, begun};
 /// A book: whether it is whole, the number of the data that last touched it since the last loss or restart, and the counts of its levels.
 #[derive(Clone, Copy, PartialEq, Eq, Debug)]
 pub struct Book {
-    // Kept as a flag: callers lend tables of books, so an Option of the counts would ask more of those who make one.
+    // Kept as a flag, and 0 where no data touched: callers lend tables of books, so Options would ask more of those who make one.
     pub whole: bool,
     pub touched: u32,
     pub buys: u16,

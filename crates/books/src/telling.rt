@@ -11,6 +11,7 @@ use wire::{Points, Side};
 
 impl Tables<'_, '_, '_> {
     // One level told to the book at a place.
+    // Kept as two arms: the order of a side is a type, and the side is a value.
     fn put(&mut self, i: usize, point: Point)
         requires { i < length self.old.books.now }
         ensures { Becomes self.old self.new (changed_at (suc i) (limited self.old.depth point.side point.level) (tables_known self.old)) }

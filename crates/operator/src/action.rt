@@ -5,6 +5,7 @@ ghost use Rattle.operator.specs.Desks.{asked_of};
 use channel::{ChannelFault, Claim, OfferFault, Taken};
 
 /// One action of an operator: a call, with what it is given. A settlement gives the claim in hand.
+// Kept with number, source and first one by one: a channel's public `make` takes them so.
 #[derive(PartialEq, Eq, Debug, Drop)]
 pub enum Action {
     Make {

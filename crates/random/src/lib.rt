@@ -33,6 +33,7 @@ impl Random {
     }
 
     /// A number below `n`, or 0 where `n` is.
+    // Kept as a number: a public function that can't fail may not begin to.
     pub fn below(&mut self, n: u32) -> u32
         ensures is { result ≡ chosen self.old.state n }
         ensures after { self.new.state ≡ after_choice self.old.state n }

@@ -42,7 +42,7 @@ fn mapping(alloc: Global, number: u8) -> Result<Action, AllocError> {
 }
 
 // What a reply says, in a word and its numbers.
-// Kept beside the console's line of a reply: that has the request's bytes too, and a relay stands on no console.
+// Kept beside the line of a reply in `replies`: that has the request's bytes too, and a relay stands on no `replies`.
 #[derive(Clone, Copy)]
 struct Shown(Reply);
 

@@ -63,6 +63,7 @@ impl<'a> fmt::Display for ReplyLine<'a> {
     }
 }
 
+// Kept with 0 for the last of a closed channel, here and above: a line has a number there.
 /// Where a channel stands, printed in a line that is ended: last, which a closed one has not, the units in use on its shelf, the loss mark and the counts of the tally.
 #[derive(Clone, Copy)]
 pub struct StateLine {

@@ -19,7 +19,8 @@ pub fn answer(alloc: Global, line: &[u8]) -> Result<Option<String>, ParseError>
         Ok(None) => Ok(None),
         Ok(Some(Command::Read(packet))) => Ok(Some(read_answer(alloc, packet.as_slice())?)),
         Ok(Some(_)) | Err(ParseError::Unreadable) => {
-            Ok(Some(String::from_str(alloc, "unreadable\n")?))
+            let fault = ParseError::Unreadable;
+            Ok(Some(format!(in alloc; "{fault}\n")?))
         }
         Err(ParseError::OutOfMemory) => Err(ParseError::OutOfMemory),
     }

@@ -27,7 +27,7 @@ fn reply_alone(alloc: Global, command: Command) -> Result<String, AllocError>
         | Command::Restart { .. }
         | Command::Book { .. }
         | Command::Row { .. }
-        | Command::State => String::from_str(alloc, "unreadable\n"),
+        | Command::State => refusal(alloc, ParseError::Unreadable),
     }
 }
 
@@ -76,6 +76,8 @@ fn refusal(alloc: Global, fault: ParseError) -> Result<String, AllocError>
     format!(in alloc; "{fault}\n")
 }
 
+// Kept as an empty text where there is no answer, here and below: callers print what they get, and an Option would ask more of them.
+// Kept beside `answer`, whose match is alike: that has a desk to lend.
 /// The answer to what `parse` makes of a line, where no channel is set up: then a packet can be read, and nothing else is readable.
 /// A line that asks nothing has an empty answer, and so has a setup, which is the caller's.
 pub fn answer_alone(

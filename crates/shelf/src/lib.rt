@@ -49,6 +49,7 @@ impl PutFault {
     }
 }
 
+// Kept beside `wire`'s text of a refusal: a shelf stands on no crate, and a common one would be there for a line.
 impl fmt::Display for PutFault {
     ghost output = { λ fault. Some (refused_text (put_fault_number fault)) };
 

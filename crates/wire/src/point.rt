@@ -146,7 +146,7 @@ pub struct DeltaPoint {
     pub link: u32,
 }
 
-// A packet that is read has a letter of a side, and of a reason; any other byte counts as the last of them.
+// Kept without a refusal: a packet that is read has a letter of a side, and of a reason; any other byte counts as the last of them.
 impl From<[u8; 12]> for PricePoint {
     ghost from_gives = { λ bytes point. point ≡ full_at bytes 0 };
 

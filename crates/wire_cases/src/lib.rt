@@ -122,22 +122,22 @@ mod tests {
 
     #[test]
     fn texts(rt: HostRuntime) -> Result<(), Fail> {
-        let heap = rt.alloc();
-        assert_eq!(rt; Side::Buy.to_string(heap)?.as_str(), "buy");
-        assert_eq!(rt; Reason::Multiple.to_string(heap)?.as_str(), "X");
+        let alloc = rt.alloc();
+        assert_eq!(rt; Side::Buy.to_string(alloc)?.as_str(), "buy");
+        assert_eq!(rt; Reason::Multiple.to_string(alloc)?.as_str(), "X");
         let fault = ReadFault::Body { offset: 42 };
         assert_eq!(rt;
-            fault.to_string(heap)?.as_str(),
+            fault.to_string(alloc)?.as_str(),
             "refused 7 by reader offset=42"
         );
         let fault = ReadFault::Length;
-        assert_eq!(rt; fault.to_string(heap)?.as_str(), "refused 2 by reader");
+        assert_eq!(rt; fault.to_string(alloc)?.as_str(), "refused 2 by reader");
         assert_eq!(rt;
-            RequestFault::Source.to_string(heap)?.as_str(),
+            RequestFault::Source.to_string(alloc)?.as_str(),
             "refused 20"
         );
         assert_eq!(rt;
-            UnknownLetter(81).to_string(heap)?.as_str(),
+            UnknownLetter(81).to_string(alloc)?.as_str(),
             "unknown letter 81"
         );
         Ok(())
