@@ -1,6 +1,8 @@
 //! The proved shelves beside a plain map: the same random calls, every answer compared.
 #![tactic(auto)]
 
+ghost use Rattle.shelf_cases.specs.Cases.{Cases};
+
 mod model;
 mod trial;
 
@@ -47,6 +49,12 @@ fn run(rt: &HostRuntime) -> anyhow::Result<()> {
     let model = records(299).under(90).under(250).under(60);
     compare(rt, "chain of 300 under 90, 250, 60", pile, model, 40)
 }
+
+/// Worked cases of a shelf's refusals and their order, of the lengths, and of the total under a quota: a theorem.
+#[tactic(auto, using(crate::proofs::Cases::cases))]
+pub fn cases_hold()
+    ensures { Cases }
+{}
 
 fn main(rt: HostRuntime) -> anyhow::Result<()> {
     run(&rt)
