@@ -4,7 +4,7 @@ use Rattle.std.specs.Option.{unwrap_or}
 use Rattle.ladder.specs.Laws.{Sorted}
 use Rattle.sink.specs.Events.{Event}
 use Rattle.tally.specs.Rows.{row_key, row_before}
-use Rattle.tally.specs.Tallies.{Counts, executed_of, capped64, summed, added, step}
+use Rattle.tally.specs.Tallies.{Counts, executed_of, capped32, capped64, summed, added, step}
 
 -- rows are in order, and no more than there is room for
 pub record InOrder (c : Counts) : Type 0 where
@@ -22,3 +22,10 @@ pub record Adds (i q : ℕ) (c : Counts) : Type 0 where
 
 abbrev pub AddsToOne : Type 0
 AddsToOne = (i q : ℕ) (c : Counts) → InOrder c → Adds i q c
+
+-- some sums, on both sides of each top
+pub record CapsWorked : Type 0 where
+  pub top32 : capped32 4294967295 ≡ 4294967295
+  pub over32 : capped32 4294967296 ≡ 4294967295
+  pub top64 : capped64 18446744073709551615 ≡ 18446744073709551615
+  pub over64 : capped64 18446744073709551616 ≡ 18446744073709551615

@@ -3,7 +3,7 @@ ghost use Rattle.std.specs.Prelude.{◌≡◌, ◌/◌, length};
 ghost use Rattle.tally.specs.Tallies.{Counts, meant, fresh, become, added, point_added, points_added, step as stepped};
 ghost use Rattle.ladder.specs.Ladders.{entered};
 ghost use Rattle.tally.specs.Rows.{row_key, row_before};
-ghost use Rattle.tally.specs.Laws.{InOrder, KeepsOrder, AddsToOne};
+ghost use Rattle.tally.specs.Laws.{InOrder, KeepsOrder, AddsToOne, CapsWorked};
 
 use crate::row::{ByIndex, Row};
 use ladder::enter;
@@ -113,10 +113,11 @@ impl<'a> Sink for Tally<'a> {
     fn restart(&mut self, _number: u32) {}
 }
 
-/// What holds of every step: a tally stays in order, and an addition changes the volume of its index alone. A theorem.
+/// What holds of every step: a tally stays in order, an addition changes the volume of its index alone, and sums stop at their tops. A theorem.
 pub fn ordered()
     ensures order { KeepsOrder }
     ensures adds { AddsToOne }
+    ensures worked { CapsWorked }
 {
     ladder::ordered::<ByIndex>();
 }
