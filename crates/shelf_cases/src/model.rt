@@ -41,7 +41,7 @@ impl Model {
     }
 
     // The price of a length, or `None` for one that no packet has.
-    // Kept beside `is_length`, and `number` beside that of a fault: the model takes nothing from what it is held against.
+    // Kept beside `is_length`, and `number` beside that of a fault: the model says these rules in its own words.
     fn price_of(&self, length: usize) -> Option<u64> {
         if !(SHORTEST..=LONGEST).contains(&length) {
             return None;
