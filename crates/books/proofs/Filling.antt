@@ -4,7 +4,7 @@ use Rattle.std.proofs.lemmas.List.{set-set, set-get_or, get_or-set_same, length-
 use Rattle.books.specs.declared.level.Point.{Point}
 use Rattle.books.specs.declared.tables.Tables.{Tables}
 use Rattle.books.specs.Entering.{Known, known, unknown, limited, filled, taken, begun, told, points_of, full_points, delta_points}
-use Rattle.books.specs.Keepers.{keeper_means, at_book, tabled, tables_known, changed_at, blank, Spot}
+use Rattle.books.specs.Keepers.{tabled, tables_known, changed_at, blank, Spot}
 use Rattle.std.proofs.lemmas.Bool.{cond-true, cond-false}
 use Rattle.wire.specs.Points.{points, full_at, delta_at}
 use Rattle.books.specs.declared.level.Level.{Level}
@@ -75,10 +75,3 @@ full_is s bs = map_map _ _ _
 pub delta_is : (s : ℕ) (bs : List ℕ) → points_of (λ p. p.level) s (points 28 delta_at bs) ≡ delta_points s bs
 unfolding points
 delta_is s bs = map_map _ _ _
-
--- what a keeper is after its tables were told
-pub heard : (t u : Tables) (m i : ℕ) (f : Known → Known) → u.depth ≡ t.depth → tables_known u ≡ changed_at i f (tables_known t)
-    → keeper_means (record { tables = u; mark = m }) ≡ at_book i f (keeper_means (record { tables = t; mark = m }))
-heard t u m i f e h =
-    ap (λ d. record { depth = d; mark = m; books = tables_known u }) e
-    ∙ ap (λ bs. record { depth = t.depth; mark = m; books = bs }) h

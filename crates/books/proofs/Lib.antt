@@ -3,3 +3,4 @@ pub mod Rows
 pub mod Filling
 pub mod Orders
 pub mod Limits
+mod Stale

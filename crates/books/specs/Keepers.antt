@@ -1,5 +1,5 @@
 -- A keeper: a table of books, numbered from 1, and what each event makes of it.
-use Rattle.std.specs.Prelude.{◌≡◌, ℕ, zero, suc, ◌+◌, ◌-◌, ◌*◌, ◌/◌, ◌<◌, ◌≤◌, min, true, false, cond, List, [], ◌∷◌, length, take, drop, replicate, Some, None, Option, nat_le, slice_index_or, slice_set}
+use Rattle.std.specs.Prelude.{◌≡◌, ℕ, zero, suc, ◌+◌, ◌-◌, ◌*◌, ◌/◌, ◌<◌, ◌≤◌, min, Bool, true, false, cond, List, [], ◌∷◌, length, take, drop, replicate, Some, None, Option, nat_le, slice_index_or, slice_set}
 use Rattle.std.specs.List.{slice_get}
 use Rattle.wire.specs.declared.point.Side.{Side}
 use Rattle.wire.specs.Texts.{refused_text}
@@ -61,9 +61,13 @@ pub record Kept : Type 0 where
   pub mark : ℕ
   pub books : List Known
 
--- the meaning of a keeper's value
+-- books of which nothing is known, or else these
+abbrev pub unless_stale : Bool → List Known → List Known
+unless_stale stale bs = cond stale (replicate (length bs) unknown) bs
+
+-- the meaning of a keeper's value: while it is stale, nothing is known of any book
 abbrev pub keeper_means : BookKeeper → Kept
-keeper_means k = record { depth = k.tables.depth; mark = k.mark; books = tables_known k.tables }
+keeper_means k = record { depth = k.tables.depth; mark = k.mark; books = unless_stale k.stale (tables_known k.tables) }
 
 -- a keeper of n books at its start
 abbrev pub fresh : ℕ → ℕ → Kept

@@ -42,6 +42,8 @@ impl Point {
 // One level told to a side, of whose rows `used` are used: a level of volume 0 is removed, and another is entered.
 // Gives how many are used then, or `None` where none is free.
 // Kept with the rows and their count as two parameters, as the ladder takes them.
+// Kept inline, as `enter` is.
+#[inline(always)]
 pub(crate) fn change<R: Rank<Row = Level, Key = u64>>(
     rows: &mut [Level],
     used: u16,

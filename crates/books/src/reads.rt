@@ -17,11 +17,16 @@ impl BookKeeper<'_, '_, '_> {
     }
 
     /// The book of an index, if there is one.
+    #[tactic(auto, using(crate::proofs::Stale::no_book, crate::proofs::Stale::stale_book))]
     pub fn book(&self, index: u16) -> Option<Book>
         ensures { result ≡ shown (book_of index (keeper_means self.now).books) }
     {
         let tables = &self.tables;
-        let book = tables.books[tables.spot(index)?];
+        let i = tables.spot(index)?;
+        if self.stale {
+            return Some(Book::UNKNOWN);
+        }
+        let book = tables.books[i];
         Some(Book {
             buys: book.buys.min(tables.depth),
             sells: book.sells.min(tables.depth),
@@ -30,12 +35,13 @@ impl BookKeeper<'_, '_, '_> {
     }
 
     /// The levels of one side of the book of an index, the best first; none where there is no book.
+    #[tactic(auto, using(crate::proofs::Stale::no_book, crate::proofs::Stale::stale_levels))]
     pub fn levels(&self, index: u16, side: Side) -> &[Level]
         ensures { result.now ≡ levels_shown side (book_of index (keeper_means self.now).books) }
     {
         match self.tables.spot(index) {
-            Some(i) => self.tables.levels(i, side),
-            None => &[],
+            Some(i) if !self.stale => self.tables.levels(i, side),
+            _ => &[],
         }
     }
 

@@ -12,22 +12,23 @@ use wire::{Points, Side};
 impl Tables<'_, '_, '_> {
     // One level told to the book at a place.
     // Kept as two arms: the order of a side is a type, and the side is a value.
+    // Kept inline, as `change` is.
+    #[inline(always)]
     fn put(&mut self, i: usize, point: Point)
         requires { i < length self.old.books.now }
         ensures { Becomes self.old self.new (changed_at (suc i) (limited self.old.depth point.side point.level) (tables_known self.old)) }
     {
         let rows = self.rows(i);
-        let book = self.books[i];
-        let lost = Book::empty(false, book.touched);
+        let Book { buys, sells, .. } = self.books[i];
         match point.side {
-            Side::Buy => {
-                let used = change::<Buys>(&mut self.buys[rows], book.buys, point.level);
-                self.books[i] = used.map_or(lost, |buys| Book { buys, ..book });
-            }
-            Side::Sell => {
-                let used = change::<Sells>(&mut self.sells[rows], book.sells, point.level);
-                self.books[i] = used.map_or(lost, |sells| Book { sells, ..book });
-            }
+            Side::Buy => match change::<Buys>(&mut self.buys[rows], buys, point.level) {
+                Some(used) => self.books[i].buys = used,
+                None => self.books[i] = Book::empty(false, self.books[i].touched),
+            },
+            Side::Sell => match change::<Sells>(&mut self.sells[rows], sells, point.level) {
+                Some(used) => self.books[i].sells = used,
+                None => self.books[i] = Book::empty(false, self.books[i].touched),
+            },
         }
     }
 

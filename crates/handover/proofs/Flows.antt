@@ -1,11 +1,11 @@
 -- Handing on turn by turn: what a loop has still to do leads where all would.
-use Rattle.std.proofs.Common.{◌≡◌, ℕ, zero, suc, ◌+◌, ◌-◌, ◌^◌, ◌<◌, ◌≤◌, Bool, true, false, cond, eqb, leb, List, [], ◌∷◌, length, take, drop, Some, None, Ok, Option, sym, refl, ap, ◌∙◌, subst, ⊎_elim, arith, MatchOption}
+use Rattle.std.proofs.Common.{◌≡◌, ℕ, zero, suc, ◌+◌, ◌-◌, ◌^◌, ◌<◌, ◌≤◌, min, Bool, true, false, cond, eqb, leb, List, [], ◌∷◌, length, take, drop, Some, None, Ok, Option, sym, refl, ap, ◌∙◌, subst, ⊎_elim, arith, MatchOption}
 use Rattle.std.proofs.lemmas.Bool.{cond-true, cond-false, cases_Bool, le-leb}
 use Rattle.std.proofs.lemmas.Bool.Decides.{nat_tests}
 use Rattle.std.proofs.lemmas.List.{take_at}
-use Rattle.shelf.specs.Store.{Packets, Store, lookup, has, above, remove, take_answer, take_buffer, take_after, length_of, written, Up, Sized}
-use Rattle.shelf.proofs.Kept.{held_is_a_map}
-use Rattle.sink.specs.Events.{Event}
+use Rattle.shelf.specs.Store.{Packets, Store, lookup, has, above, remove, take_answer, take_buffer, take_after, length_of, written, with_held, Up, Sized}
+use Rattle.shelf.proofs.Kept.{held_is_a_map, lookup_none, remove_none}
+use Rattle.sink.specs.Events.{Event, loss_of}
 use Rattle.order.specs.Machine.{turn}
 use Rattle.handover.specs.Flows.{Flow, message_of, without, gap, hand, hands, handing, handed_on}
 use Rattle.order.proofs.Plain.{never, ok_same}
@@ -55,11 +55,40 @@ module _ {M : Type 0} (step : Event → M → M) where
       handing_same (length f.shelf.held) (suc (length f.shelf.held)) f (omega arith) (omega arith) ∙ cond-false (has f.shelf.held (f.last + 1)) _ _ e
 
   -- a range: one turn
-  pub hands_more : (e k j : ℕ) (f g : Flow M) → g ≡ hand step f → f.last < e → k ≡ e - g.last → j ≡ e - f.last → hands step k g ≡ hands step j f
+  hands_more : (e k j : ℕ) (f g : Flow M) → g ≡ hand step f → f.last < e → k ≡ e - g.last → j ≡ e - f.last → hands step k g ≡ hands step j f
   hands_more e k j f g is l x y =
       let left : k ≡ e - (f.last + 1) = x ∙ ap (λ (h : Flow M). e - h.last) is in
       let more : j ≡ suc k = omega arith in
       ap (hands step k) is ∙ sym (ap (λ n. hands step n f) more)
+
+  -- each turn moves last on by one
+  hands_last : (k : ℕ) (f : Flow M) → (hands step k f).last ≡ f.last + k
+  hands_last zero f = omega arith
+  hands_last (suc k) f = let ih = hands_last k (hand step f) in omega arith
+
+  -- turns, and turns after them
+  hands_add : (k j : ℕ) (f : Flow M) → hands step j (hands step k f) ≡ hands step (k + j) f
+  hands_add zero j f = let z : j ≡ 0 + j = omega arith in ap (λ n. hands step n f) z
+  hands_add (suc k) j f = let z : suc (k + j) ≡ suc k + j = omega arith in hands_add k j (hand step f) ∙ ap (λ n. hands step n f) z
+
+  -- a range: a run of its numbers, then the rest
+  pub run_rest : (e r i j k : ℕ) (f g x : Flow M) → g ≡ hands step i f → r ≤ e → hands step j f ≡ x → i ≡ r - f.last → j ≡ e - f.last → k ≡ e - g.last → hands step k g ≡ x
+  run_rest e r i j k f g x is within rest u v w =
+      let last = hands_last i f in
+      let moved : g.last ≡ (hands step i f).last = ap (λ (h : Flow M). h.last) is in
+      let all : i + k ≡ j = omega arith in
+      ap (hands step k) is ∙ hands_add i k f ∙ ap (λ n. hands step n f) all ∙ rest
+
+  -- a range: a run of its numbers, one turn, then the rest
+  pub run_more : (e r i j k : ℕ) (f g h x : Flow M) → h ≡ hand step g → g ≡ hands step i f → g.last < e → r ≤ e → hands step j f ≡ x → i ≡ r - f.last → j ≡ e - f.last → k ≡ e - h.last
+      → hands step k h ≡ x
+  run_more e r i j k f g h x one is l within rest u v w =
+      hands_more e k (e - g.last) g h one l w refl ∙ run_rest e r i j (e - g.last) f g x is within rest u v refl
+
+-- the least number held above last
+above_some : (h : Packets) (l m : ℕ) → Some m ≡ above h l → Up 0 h → (l < m) × (has h m ≡ true) × ((j : ℕ) → l < j → has h j ≡ true → m ≤ j)
+above_some h l m e up =
+    subst (λ o. MatchOption o ((j : ℕ) → has h j ≡ true → j ≤ l) (λ m. (l < m) × (has h m ≡ true) × ((j : ℕ) → l < j → has h j ≡ true → m ≤ j))) (sym e) ((held_is_a_map h up).least l)
 
 -- a gap lies above last, and its end fits 32 bits
 pub gap_within : (l : ℕ) (h : Packets) (m : ℕ) → Up 0 h → Some m ≡ gap l h → (l < m) × (m < 2 ^ 32)
@@ -68,8 +97,7 @@ gap_within l h m up e = go (has h (l + 1)) e
     go : (t : Bool) → Some m ≡ cond t None (above h l) → (l < m) × (m < 2 ^ 32)
     go true e = absurd (never (cc))
     go false e =
-        let x = subst (λ o. MatchOption o ((j : ℕ) → has h j ≡ true → j ≤ l) (λ m. (l < m) × (has h m ≡ true) × ((j : ℕ) → l < j → has h j ≡ true → m ≤ j))) (sym e)
-        ((held_is_a_map h up).least l) in
+        let x = above_some h l m e up in
         (x.0, held_small 0 m h up x.1)
 
 -- a packet that is held has a packet's length
@@ -124,3 +152,39 @@ handed step f s m b o p q r w =
     let x = r ∙ ap (λ y. step (turn (f.last + 1) (message_of y)) f.sink) (sym p) in
     let y = w ∙ ap (λ y. written y f.scratch) (sym p) in
     λ i. record { last = f.last + 1; shelf = q i; sink = x i; scratch = y i }
+
+-- a number that is not held was handed over as lost
+pub lost : {M : Type 0} (step : Event → M → M) (f : Flow M) (m : M) → has f.shelf.held (f.last + 1) ≡ false → m ≡ step (loss_of (f.last + 1)) f.sink
+    → ◌≡◌ {A = Flow M} (record { last = f.last + 1; shelf = f.shelf; sink = m; scratch = f.scratch }) (hand step f)
+lost step f m a r =
+    handed step f f.shelf m f.scratch None (lookup_none f.shelf.held (f.last + 1) a) (sym (ap (with_held f.shelf) (remove_none f.shelf.held (f.last + 1) a))) r refl
+
+-- a range: the loss of one number that is not held, then the rest
+pub lost_more : {M : Type 0} (step : Event → M → M) (e l : ℕ) (s : Store) (n m : M) (b : List ℕ) (x : Flow M)
+    → m ≡ step (loss_of (l + 1)) n → l < e → has s.held (l + 1) ≡ false
+    → hands step (e - l) (record { last = l; shelf = s; sink = n; scratch = b }) ≡ x → hands step (e - (l + 1)) (record { last = l + 1; shelf = s; sink = m; scratch = b }) ≡ x
+lost_more {M = M} step e l s n m b x is more a rest =
+    let f : Flow M = record { last = l; shelf = s; sink = n; scratch = b } in
+    hands_more step e (e - (l + 1)) (e - l) f (record { last = l + 1; shelf = s; sink = m; scratch = b }) (lost step f m a is) more refl refl ∙ rest
+
+-- where none is held above last, no number above it is held
+pub above_none : (h : Packets) (l n : ℕ) → None ≡ above h l → Up 0 h → l < n → has h n ≡ false
+above_none h l n e up a =
+    let x = subst (λ o. MatchOption o ((j : ℕ) → has h j ≡ true → j ≤ l) (λ m. (l < m) × (has h m ≡ true) × ((j : ℕ) → l < j → has h j ≡ true → m ≤ j))) (sym e) ((held_is_a_map h up).least l) in
+    ⊎_elim (λ t. absurd (let s = x n t in omega arith)) (λ t. t) (cases_Bool (has h n))
+
+-- the least number held above last is not 0
+pub above_positive : (h : Packets) (l m : ℕ) → Some m ≡ above h l → Up 0 h → 1 ≤ m
+above_positive h l m e up = omega (arith, (above_some h l m e up).0)
+
+-- no number between last and it is held
+pub above_between : (h : Packets) (l m e r n : ℕ) → Some m ≡ above h l → Up 0 h → r ≡ min e (m - 1) → l < n → n ≤ r → has h n ≡ false
+above_between h l m e r n is up least a b =
+    ⊎_elim (λ t. absurd (let x = above_some h l m is up in let s = x.2 n a t in omega (arith, x.0))) (λ t. t) (cases_Bool (has h n))
+
+-- it follows the last one below it
+pub above_met : (h : Packets) (l m e r : ℕ) → Some m ≡ above h l → Up 0 h → r ≡ min e (m - 1) → r < e → has h (r + 1) ≡ true
+above_met h l m e r is up least short =
+    let x = above_some h l m is up in
+    let same : r + 1 ≡ m = omega (arith, x.0) in
+    ap (has h) same ∙ x.1

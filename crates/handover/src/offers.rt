@@ -1,5 +1,5 @@
 //! Handing over: the next number, what is held, a range, and a packet that is offered.
-ghost use Rattle.std.specs.Prelude.{◌≡◌, ℕ, ◌+◌, ◌-◌, ◌^◌, ◌<◌, ◌≤◌, true, [], length, Some};
+ghost use Rattle.std.specs.Prelude.{◌≡◌, ℕ, ◌+◌, ◌-◌, ◌^◌, ◌<◌, ◌≤◌, true, false, List, [], length, Some};
 ghost use Rattle.order.specs.Machine.{turn};
 ghost use Rattle.order.specs.Machine.{carries, brought};
 ghost use Rattle.shelf.specs.Store.{has};
@@ -92,15 +92,45 @@ impl<S: Sink, H: Shelf> Handover<S, H> {
         }
     }
 
-    // Hands over every number up to the given one.
+    // The end of the run of numbers from the next one on that are not held, at most the given one.
+    #[tactic(auto, using(crate::proofs::Flows::above_positive, crate::proofs::Flows::above_between, crate::proofs::Flows::above_met, crate::proofs::Flows::above_none))]
+    fn absent_to(&self, end: u32) -> u32
+        ensures within { result ≤ end }
+        ensures absent { (n : ℕ) → self.now.last < n → n ≤ result → has (H.Shelf.means self.now.shelf).held n ≡ false }
+        ensures met { result < end → has (H.Shelf.means self.now.shelf).held (result + 1) ≡ true }
+    {
+        match self.shelf.least_above(self.last) {
+            Some(held) => end.min(held - 1),
+            None => end,
+        }
+    }
+
+    // Hands over the next numbers as lost, up to the given one: none of them is held.
+    #[tactic(auto, using(crate::proofs::Flows::lost_more))]
+    fn lose_to(&mut self, until: u32)
+        requires { (n : ℕ) → self.old.last < n → n ≤ until → has (H.Shelf.means self.old.shelf).held n ≡ false }
+        ensures last { self.old.last ≤ self.new.last }
+        ensures after { (scratch : List ℕ) → flow (S.Sink) (H.Shelf) self.new scratch ≡ hands_to S.Sink.step until (flow (S.Sink) (H.Shelf) self.old scratch) }
+    {
+        while self.last < until {
+            self.last += 1;
+            self.sink.loss(self.last);
+        }
+    }
+
+    // Hands over every number up to the given one. For a run of numbers that are not held the shelf is asked once.
     // Kept as a while: handing over moves last on, so the number of a range would stand beside it unused.
-    #[tactic(auto, using(crate::proofs::Flows::hands_more))]
+    #[tactic(auto, using(crate::proofs::Flows::run_more, crate::proofs::Flows::run_rest))]
     fn hand_to(&mut self, end: u32, scratch: &mut [u8])
         requires { 1500 ≤ length scratch.old }
         ensures { flow (S.Sink) (H.Shelf) self.new scratch.new ≡ hands_to S.Sink.step end (flow (S.Sink) (H.Shelf) self.old scratch.old) }
     {
         while self.last < end {
-            self.hand(scratch);
+            let absent = self.absent_to(end);
+            self.lose_to(absent);
+            if self.last < end {
+                self.hand(scratch);
+            }
         }
     }
 

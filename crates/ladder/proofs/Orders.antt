@@ -1,7 +1,7 @@
 -- What the laws of a rank give of rows in order.
-use Rattle.std.proofs.Common.{◌≡◌, ℕ, zero, suc, ◌<◌, ◌≤◌, Bool, true, false, cond, List, [], ◌∷◌, ◌++◌, length, get_or, take, drop, sym, refl, ap, ◌∙◌, subst, ⊎_elim, arith}
-use Rattle.std.proofs.lemmas.Bool.{cond_both, both_ways, cases_Bool}
-use Rattle.ladder.specs.Ladders.{flags, place, past, entered, removed}
+use Rattle.std.proofs.Common.{◌≡◌, ℕ, zero, suc, ◌-◌, ◌<◌, ◌≤◌, min, Bool, true, false, cond, ltb, List, [], ◌∷◌, ◌++◌, length, get_or, take, drop, sym, refl, ap, ◌∙◌, subst, ⊎_elim, arith}
+use Rattle.std.proofs.lemmas.Bool.{cond_both, both_ways, cases_Bool, cases_lt, ltb-true}
+use Rattle.ladder.specs.Ladders.{flags, halved_place, last_before, lead, front_place, place, past, entered, removed}
 use Rattle.ladder.specs.Laws.{First, Sorted, placed, inserted, without}
 use Rattle.ladder.proofs.Halves.{halved_is}
 
@@ -19,6 +19,14 @@ module _ {X K : Type 0} (key : X → K) (before : K → K → Bool) where
       elim (before (key x) k) as (λ b. 0 < cond b (suc (placed key before k xs)) 0 → b ≡ true) [ true ↦ λ h. refl | false ↦ λ h. absurd (omega arith) ] h
   front k (x ∷ xs) (suc i) h =
       elim (before (key x) k) as (λ b. suc i < cond b (suc (placed key before k xs)) 0 → get_or (flags key before k xs) i false ≡ true) [ true ↦ λ h. front k xs i (omega arith) | false ↦ λ h. absurd (omega arith) ] h
+
+  -- the looks at the first n rows find it, where it is among them
+  lead_placed : (n : ℕ) (k : K) (xs : List X) → lead n (flags key before k xs) ≡ min n (placed key before k xs)
+  lead_placed zero k xs = omega arith
+  lead_placed (suc n) k [] = omega arith
+  lead_placed (suc n) k (x ∷ xs) =
+      let h = lead_placed n k xs in
+      elim (before (key x) k) as (λ b. cond b (suc (lead n (flags key before k xs))) 0 ≡ min (suc n) (cond b (suc (placed key before k xs)) 0)) [ true ↦ omega (arith, h) | false ↦ omega arith ]
 
   plain_in : (r : X) (xs : List X) → take (placed key before (key r) xs) xs ++ r ∷ past key before (key r) (drop (placed key before (key r) xs) xs) ≡ inserted key before r xs
   plain_in r [] = refl
@@ -61,8 +69,27 @@ module _ {X K : Type 0} (key : X → K) (before : K → K → Bool) where
         (none_later k x xs (suc i) s)
         (cases_Bool (before (key x) k))
 
+    by_halves : (k : K) (xs : List X) → Sorted key before xs → halved_place key before k xs ≡ placed key before k xs
+    by_halves k xs s = halved_is (flags key before k xs) (placed key before k xs) (front k xs) (λ i h. rest k xs i s h) (length xs) 0 (length xs) (omega arith) (placed_le k xs) (omega arith)
+
+    -- all rows come before a key that the last one comes before
+    by_last : (k : K) (xs : List X) → Sorted key before xs → last_before key before k xs ≡ true → length xs ≡ placed key before k xs
+    by_last k xs s t =
+        let few = placed_le k xs in
+        ⊎_elim {C = length xs ≡ placed key before k xs}
+        (λ h. omega arith)
+        (λ h. absurd (both_ways _ (rest k xs (length xs - 1) s h) t))
+        (cases_lt (length xs - 1) (placed key before k xs))
+
+    by_front : (k : K) (xs : List X) → Sorted key before xs → front_place key before k xs ≡ placed key before k xs
+    by_front k xs s =
+        cond_both (ltb (lead 8 (flags key before k xs)) 8) _ _ (λ x. x ≡ placed key before k xs)
+        (λ t. omega (arith, ltb-true _ 8 t, lead_placed 8 k xs))
+        (λ f. by_halves k xs s)
+
     pub place_is : (k : K) (xs : List X) → Sorted key before xs → place key before k xs ≡ placed key before k xs
-    place_is k xs s = halved_is (flags key before k xs) (placed key before k xs) (front k xs) (λ i h. rest k xs i s h) (length xs) 0 (length xs) (omega arith) (placed_le k xs) (omega arith)
+    place_is k xs s =
+        cond_both (last_before key before k xs) (length xs) (front_place key before k xs) (λ x. x ≡ placed key before k xs) (by_last k xs s) (λ f. by_front k xs s)
 
     inserted_sorted : (r : X) (xs : List X) → Sorted key before xs → Sorted key before (inserted key before r xs)
     inserted_sorted r [] s = (tt, tt)

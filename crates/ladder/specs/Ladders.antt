@@ -1,4 +1,4 @@
--- Ladders: rows that are looked up by halves. `key` gives a row's key, and `before` says which of two keys comes first.
+-- Ladders: rows that are looked up at the last, then at the first ones, then by halves. `key` gives a row's key, and `before` says which of two keys comes first.
 -- All of it is defined for any rows, in order or not.
 use Rattle.std.specs.Prelude.{◌≡◌, ℕ, zero, suc, ◌+◌, ◌-◌, ◌/◌, ◌<◌, ◌≤◌, Bool, false, cond, not, List, [], ◌∷◌, ◌++◌, map, length, take, drop, Some, None, Option, nat_lt, slice_index_or}
 
@@ -16,9 +16,27 @@ halved (suc n) flags low high =
 abbrev pub flags : {X K : Type 0} → (X → K) → (K → K → Bool) → K → List X → List Bool
 flags key before k xs = map (λ x. before (key x) k) xs
 
--- the place of the key k
+-- the place of the key k, looked for by halves
+abbrev pub halved_place : {X K : Type 0} → (X → K) → (K → K → Bool) → K → List X → ℕ
+halved_place key before k xs = halved (length xs) (flags key before k xs) 0 (length xs)
+
+-- whether the last row, if there is one, comes before the key k
+abbrev pub last_before : {X K : Type 0} → (X → K) → (K → K → Bool) → K → List X → Bool
+last_before key before k xs = slice_index_or (flags key before k xs) (length xs - 1) false
+
+-- how many of the first n flags are true before the first that is false
+abbrev pub lead : ℕ → List Bool → ℕ
+lead zero bs = 0
+lead (suc n) [] = 0
+lead (suc n) (b ∷ bs) = cond b (suc (lead n bs)) 0
+
+-- the place of the key k: among the first eight rows, looked at one after the other, and else by halves
+abbrev pub front_place : {X K : Type 0} → (X → K) → (K → K → Bool) → K → List X → ℕ
+front_place key before k xs = cond (nat_lt (lead 8 (flags key before k xs)) 8) (lead 8 (flags key before k xs)) (halved_place key before k xs)
+
+-- the place of the key k: behind the last row, where that comes before it, and else from the front
 abbrev pub place : {X K : Type 0} → (X → K) → (K → K → Bool) → K → List X → ℕ
-place key before k xs = halved (length xs) (flags key before k xs) 0 (length xs)
+place key before k xs = cond (last_before key before k xs) (length xs) (front_place key before k xs)
 
 -- the first row, if there is one, has the key k: k is not before it
 abbrev pub held : {X K : Type 0} → (X → K) → (K → K → Bool) → K → List X → Bool

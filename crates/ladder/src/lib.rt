@@ -5,7 +5,7 @@
 #![tactic(auto)]
 
 ghost use Rattle.std.specs.Prelude.{◌≡◌, ◌<◌, ◌≤◌, Bool, true, false, ◌++◌, length, take, drop, MatchResult};
-ghost use Rattle.ladder.specs.Ladders.{place as place_of, entered, removed, Found, Holds, Settled};
+ghost use Rattle.ladder.specs.Ladders.{place as place_of, front_place, halved_place, lead as lead_of, flags, entered, removed, Found, Holds, Settled};
 ghost use Rattle.ladder.specs.Laws.{Laws};
 
 use std::marker::PhantomData;
@@ -71,9 +71,9 @@ impl<R: Rank> Rank for Backwards<R> {
 // Kept as a loop: `partition_point` says where the key belongs only in rows that are in order, and every lent table has its answer here.
 // The proof with it stops at `result ≡ place_of ..`, and in rows out of order it does look at other rows.
 #[tactic(auto, using(crate::proofs::Halves::halved_end, crate::proofs::Halves::look_up, crate::proofs::Halves::look_down, crate::proofs::Places::flag_at))]
-fn place<R: Rank>(rows: &[R::Row], key: R::Key) -> usize
+fn halve<R: Rank>(rows: &[R::Row], key: R::Key) -> usize
     ensures within { result ≤ length rows.now }
-    ensures is { result ≡ place_of R.keyed R.before key rows.now }
+    ensures is { result ≡ halved_place R.keyed R.before key rows.now }
 {
     let mut low = 0;
     let mut high = rows.len();
@@ -86,6 +86,45 @@ fn place<R: Rank>(rows: &[R::Row], key: R::Key) -> usize
         }
     }
     low
+}
+
+// How many of the first eight rows come before a key, up to the first that does not.
+fn lead<R: Rank>(rows: &[R::Row], key: R::Key) -> usize
+    ensures within { result ≤ length rows.now }
+    ensures is { result ≡ lead_of 8 (flags R.keyed R.before key rows.now) }
+{
+    let end = rows.len().min(8);
+    let mut at = 0;
+    while at < end && R::precedes(R::key(&rows[at]), key) {
+        at += 1;
+    }
+    at
+}
+
+// The place of a key among the rows: one of the first eight, where most changes of a book are, or else by halves.
+#[tactic(auto, using(crate::proofs::Places::near_place, crate::proofs::Places::far_place))]
+fn front<R: Rank>(rows: &[R::Row], key: R::Key) -> usize
+    ensures within { result ≤ length rows.now }
+    ensures is { result ≡ front_place R.keyed R.before key rows.now }
+{
+    let at = lead::<R>(rows, key);
+    if at < 8 {
+        return at;
+    }
+    halve::<R>(rows, key)
+}
+
+// The place of a key among the rows: behind the last, where rows come in their order, or else from the front.
+#[tactic(auto, using(crate::proofs::Places::last_place, crate::proofs::Places::inner_place, crate::proofs::Places::empty_place))]
+fn place<R: Rank>(rows: &[R::Row], key: R::Key) -> usize
+    ensures within { result ≤ length rows.now }
+    ensures is { result ≡ place_of R.keyed R.before key rows.now }
+{
+    let count = rows.len();
+    if count > 0 && R::precedes(R::key(&rows[count - 1]), key) {
+        return count;
+    }
+    front::<R>(rows, key)
 }
 
 // How many rows are used: no more than there are.
@@ -134,6 +173,8 @@ fn insert<R: Rank>(rows: &mut [R::Row], used: usize, at: usize, row: R::Row) -> 
 
 /// Puts a row in the place of the one with its key among the first `used` rows, or else adds it.
 /// Gives how many rows are used then, or `None`, with all as it was, where no place is free.
+// Kept inline: a call would write the row into memory field by field and read it back in one, which waits for the writes.
+#[inline(always)]
 pub fn enter<R: Rank>(rows: &mut [R::Row], used: usize, row: R::Row) -> Option<usize>
     ensures { Settled rows.old rows.new (entered R.keyed R.before row (take used rows.old)) result }
 {

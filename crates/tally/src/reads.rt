@@ -17,6 +17,7 @@ impl Tally<'_> {
     }
 
     /// The executed volume of an index, if it has a row.
+    #[tactic(auto, using(crate::proofs::Found::found_executed))]
     pub fn executed(&self, index: u16) -> Option<u64>
         ensures { result ≡ executed_of index (meant self.now).rows }
     {
