@@ -42,6 +42,10 @@ module _ {M : Type 0} (step : Event → M → M) where
       subst (λ (x : Desk M). Follows step before (history_of step xs d h) x.channel) (sym is) (list_follows before xs h d f) in
       (on, promised step before (history_of step xs d h) e.channel on)
 
+  -- the same of one action
+  pub one_runs_on : (a : Action) (d e : Desk M) → e ≡ desk_after step a d → RunsOn step (a ∷ []) d e
+  one_runs_on a = runs_on (a ∷ [])
+
   replies_push : (xs : List Action) (a : Action) (d : Desk M) → replies_to step (xs ++ (a ∷ [])) d ≡ replies_to step xs d ++ (reply_to step a (desks_after step xs d) ∷ [])
   replies_push [] a d = refl
   replies_push (x ∷ xs) a d = ap (λ rs. reply_to step x d ∷ rs) (replies_push xs a (desk_after step x d))

@@ -94,6 +94,12 @@ module _ {M : Type 0} (step : Event → M → M) where
       go (Ok v) e = let x = offer_passed c p b v e in ap (λ o. settles o k) (sym x.opened) ∙ s
       go (Err f) e = s
 
+  pub own_offered : (c : State M) (h : Option Claim) (p b : List ℕ) → IsOwn c h → IsOwn (offer_after step c p b) h
+  own_offered c h p b o = is_own (offer_after step c p b) h (own_offer c h p b (owns c h o))
+
+  pub own_restarted : (c : State M) (h : Option Claim) (n : ℕ) → IsOwn c h → IsOwn (restart_after step c n) h
+  own_restarted c h n o = is_own (restart_after step c n) h (own_restart c h n (owns c h o))
+
   -- a claim that is given is out
   same_itself : (k : Claim) → same_claim k k ≡ true
   same_itself k = grind arith
@@ -138,6 +144,9 @@ module _ {M : Type 0} (step : Event → M → M) where
 
   pub own_after : (a : Action) (d : Desk M) → IsOwn d.channel d.hand → IsOwn (desk_after step a d).channel (desk_after step a d).hand
   own_after a d o = is_own (desk_after step a d).channel (desk_after step a d).hand (owns_after a d o)
+
+  pub own_one : (a : Action) (d e : Desk M) → e ≡ desk_after step a d → IsOwn d.channel d.hand → IsOwn e.channel e.hand
+  own_one a d e is o = subst (λ (x : Desk M). IsOwn x.channel x.hand) (sym is) (own_after a d o)
 
   -- a list of actions
   own_all : (xs : List Action) (d : Desk M) → IsOwn d.channel d.hand → IsOwn (desks_after step xs d).channel (desks_after step xs d).hand

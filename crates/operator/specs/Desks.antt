@@ -71,13 +71,17 @@ module _ {M : Type 0} (step : Event → M → M) where
   buffer_after (settle k) c b = b
   buffer_after (restart n) c b = b
 
-  -- what the operator has after an action
-  abbrev pub desk_after : Action → Desk M → Desk M
-  desk_after a d = either (asks a d) d (λ x. record {
+  -- what the operator has after a call
+  abbrev pub asked_after : Ask → Desk M → Desk M
+  asked_after x d = record {
     channel = after step x d.channel;
     hand = hand_after x d.channel d.hand;
     buffer = buffer_after x d.channel d.buffer;
-  })
+  }
+
+  -- what the operator has after an action
+  abbrev pub desk_after : Action → Desk M → Desk M
+  desk_after a d = either (asks a d) d (λ x. asked_after x d)
 
   -- the reply to it
   abbrev pub reply_to : Action → Desk M → Reply

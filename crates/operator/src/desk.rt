@@ -1,14 +1,18 @@
 //! An operator's desk, and running a list of actions at it.
-ghost use Rattle.std.specs.Prelude.{◌≡◌, ℕ, true, List, [], length, if◌then◌else◌, nat_lt, slice_set, is_ok, Some, None};
+ghost use Rattle.std.specs.Prelude.{◌≡◌, ℕ, true, List, [], ◌∷◌, length, if◌then◌else◌, nat_lt, slice_set, is_ok, Some, None};
 ghost use Rattle.std.specs.Result.{result_map_both};
+ghost use Rattle.std.specs.Option.{option_map};
 ghost use Rattle.operator.specs.declared.action.Action.TheVariants.{Claim as Claims, Settle};
-ghost use Rattle.operator.specs.Desks.{desk, desk_after, reply_to, claim_reply, settle_reply, close_answer, desks_after, replies_to, placed, RunsOn, IsOwn};
+ghost use Rattle.operator.specs.Desks.{desk, asked_of, asked_after, desk_after, reply_to, claim_reply, settle_reply, close_answer, desks_after, replies_to, placed, RunsOn, IsOwn};
 ghost use Rattle.channel.specs.Channels.{state};
-ghost use Rattle.channel.specs.Calls.{make_answer, make_after};
-ghost use Rattle.channel.specs.Kept.{Begins};
+ghost use Rattle.channel.specs.Follows.{offer, restart};
+ghost use Rattle.channel.specs.Offers.{offer_answer};
+ghost use Rattle.channel.specs.Calls.{make_answer, make_after, restart_answer};
+ghost use Rattle.channel.specs.Kept.{GoesOn, Begins};
+ghost use Rattle.order.specs.Machine.{offered, restarted};
 
 use crate::action::{Action, Asked, Reply};
-use channel::{Channel, ChannelFault, Claim};
+use channel::{Channel, ChannelFault, Claim, OfferFault, Taken};
 use shelf::Shelf;
 use sink::Sink;
 
@@ -66,6 +70,34 @@ impl<S: Sink, H: Shelf> Desk<S, H> {
         self.channel.make(number, source, first)
     }
 
+    /// What the claim in hand asks for, if one is in hand.
+    pub fn hand(&self) -> Option<Asked>
+        ensures { result ≡ option_map asked_of self.now.hand }
+    {
+        self.hand.as_ref().map(Asked::from)
+    }
+
+    /// Offers a packet. The claim in hand stays.
+    #[tactic(auto, using(crate::proofs::Owns::own_offered))]
+    pub fn offer(&mut self, packet: &[u8], buffer: &mut [u8]) -> Result<Taken, OfferFault>
+        ensures answer { result ≡ offer_answer S.Sink.step (state (S.Sink) (H.Shelf) self.old.channel) packet.now buffer.old }
+        ensures after { desk (S.Sink) (H.Shelf) self.new buffer.new ≡ asked_after S.Sink.step (offer packet.now buffer.old) (desk (S.Sink) (H.Shelf) self.old buffer.old) }
+        ensures stands { GoesOn S.Sink.step (offered packet.now (is_ok result)) (state (S.Sink) (H.Shelf) self.old.channel) (state (S.Sink) (H.Shelf) self.new.channel) }
+        ensures own { IsOwn (state (S.Sink) (H.Shelf) self.old.channel) self.old.hand → IsOwn (state (S.Sink) (H.Shelf) self.new.channel) self.new.hand }
+    {
+        self.channel.offer(packet, buffer)
+    }
+
+    /// Begins again at a number.
+    pub fn restart(&mut self, number: u32) -> Result<(), ChannelFault>
+        ensures answer { result ≡ restart_answer (state (S.Sink) (H.Shelf) self.old.channel) number }
+        ensures after { (b : List ℕ) → desk (S.Sink) (H.Shelf) self.new b ≡ asked_after S.Sink.step (restart number) (desk (S.Sink) (H.Shelf) self.old b) }
+        ensures stands { GoesOn S.Sink.step (restarted number (is_ok result)) (state (S.Sink) (H.Shelf) self.old.channel) (state (S.Sink) (H.Shelf) self.new.channel) }
+        ensures own { IsOwn (state (S.Sink) (H.Shelf) self.old.channel) self.old.hand → IsOwn (state (S.Sink) (H.Shelf) self.new.channel) self.new.hand }
+    {
+        self.channel.restart(number)
+    }
+
     // Takes a claim into the hand.
     fn take_up(&mut self, claim: Claim)
         requires { self.old.hand ≡ None }
@@ -77,8 +109,8 @@ impl<S: Sink, H: Shelf> Desk<S, H> {
         }
     }
 
-    // Claims the gap. The claim goes into the hand; where one is in hand, no other is asked for.
-    fn claim(&mut self, time: u32, buffer: &mut [u8]) -> Result<Asked, ChannelFault>
+    // Kept as steps beside the calls: what a call stands for follows from its reply and from where it leads, in one way for all of its returns.
+    fn claim_step(&mut self, time: u32, buffer: &mut [u8]) -> Result<Asked, ChannelFault>
         ensures reply { result ≡ claim_reply (desk (S.Sink) (H.Shelf) self.old buffer.old) }
         ensures after { desk (S.Sink) (H.Shelf) self.new buffer.new ≡ desk_after S.Sink.step (Claims time) (desk (S.Sink) (H.Shelf) self.old buffer.old) }
     {
@@ -91,8 +123,7 @@ impl<S: Sink, H: Shelf> Desk<S, H> {
         Ok(asked)
     }
 
-    // Settles the claim in hand, if one is. A claim that is refused stays in hand.
-    fn settle(&mut self) -> Option<Result<u32, ChannelFault>>
+    fn settle_step(&mut self) -> Option<Result<u32, ChannelFault>>
         ensures reply { (b : List ℕ) → result ≡ settle_reply (desk (S.Sink) (H.Shelf) self.old b) }
         ensures after { (b : List ℕ) → desk (S.Sink) (H.Shelf) self.new b ≡ desk_after S.Sink.step Settle (desk (S.Sink) (H.Shelf) self.old b) }
     {
@@ -106,6 +137,28 @@ impl<S: Sink, H: Shelf> Desk<S, H> {
         }
     }
 
+    /// Claims the gap. The claim goes into the hand; where one is in hand, no other is asked for.
+    #[tactic(auto, using(crate::proofs::Lists::one_runs_on, crate::proofs::Owns::own_one))]
+    pub fn claim(&mut self, time: u32, buffer: &mut [u8]) -> Result<Asked, ChannelFault>
+        ensures reply { result ≡ claim_reply (desk (S.Sink) (H.Shelf) self.old buffer.old) }
+        ensures after { desk (S.Sink) (H.Shelf) self.new buffer.new ≡ desk_after S.Sink.step (Claims time) (desk (S.Sink) (H.Shelf) self.old buffer.old) }
+        ensures stands { RunsOn S.Sink.step (Claims time ∷ []) (desk (S.Sink) (H.Shelf) self.old buffer.old) (desk (S.Sink) (H.Shelf) self.new buffer.new) }
+        ensures own { IsOwn (state (S.Sink) (H.Shelf) self.old.channel) self.old.hand → IsOwn (state (S.Sink) (H.Shelf) self.new.channel) self.new.hand }
+    {
+        self.claim_step(time, buffer)
+    }
+
+    /// Settles the claim in hand, if one is. A claim that is refused stays in hand.
+    #[tactic(auto, using(crate::proofs::Lists::one_runs_on, crate::proofs::Owns::own_one))]
+    pub fn settle(&mut self) -> Option<Result<u32, ChannelFault>>
+        ensures reply { (b : List ℕ) → result ≡ settle_reply (desk (S.Sink) (H.Shelf) self.old b) }
+        ensures after { (b : List ℕ) → desk (S.Sink) (H.Shelf) self.new b ≡ desk_after S.Sink.step Settle (desk (S.Sink) (H.Shelf) self.old b) }
+        ensures stands { (b : List ℕ) → RunsOn S.Sink.step (Settle ∷ []) (desk (S.Sink) (H.Shelf) self.old b) (desk (S.Sink) (H.Shelf) self.new b) }
+        ensures own { IsOwn (state (S.Sink) (H.Shelf) self.old.channel) self.old.hand → IsOwn (state (S.Sink) (H.Shelf) self.new.channel) self.new.hand }
+    {
+        self.settle_step()
+    }
+
     /// Does one action.
     pub fn act(&mut self, action: &Action, buffer: &mut [u8]) -> Reply
         ensures reply { result ≡ reply_to S.Sink.step action.now (desk (S.Sink) (H.Shelf) self.old buffer.old) }
@@ -117,7 +170,7 @@ impl<S: Sink, H: Shelf> Desk<S, H> {
                 source,
                 first,
             } => Reply::Made(self.make(*number, source.as_slice(), *first)),
-            Action::Offer(packet) => Reply::Offered(self.channel.offer(packet.as_slice(), buffer)),
+            Action::Offer(packet) => Reply::Offered(self.offer(packet.as_slice(), buffer)),
             Action::Claim { time } => Reply::Claimed(self.claim(*time, buffer)),
             Action::Settle => self.settle().map_or(Reply::NoClaim, Reply::Settled),
             Action::Restart { number } => Reply::Restarted(self.channel.restart(*number)),
