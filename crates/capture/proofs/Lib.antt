@@ -1,0 +1,4 @@
+mod Cases
+mod Deliver
+mod Pieces
+mod Tags

@@ -1,0 +1,10 @@
+pub mod Numbers
+pub mod Formats
+pub mod Records
+pub mod Ether
+pub mod Internet
+pub mod Datagrams
+pub mod Texts
+pub mod Pieces
+pub mod Frames
+pub mod Cases
