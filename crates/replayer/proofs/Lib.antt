@@ -1,0 +1,2 @@
+mod Takes
+mod Leads

@@ -1,0 +1,3 @@
+pub mod Filters
+pub mod Replays
+pub mod Histories
