@@ -66,6 +66,57 @@ fn repeated<'a>(
         .help(help)
 }
 
+// The options that say what the channel is, and which datagrams are its own.
+fn with_channel<'a>(alloc: Global, command: Command<'a>) -> Result<Command<'a>, AllocError> {
+    let channel = option(alloc, "channel", "N", "1", "The channel's number");
+    let first = option(alloc, "first", "N", "1", "The first number of the day");
+    let port = repeated(alloc, "port", "P", "A destination port; without one, all");
+    command
+        .arg(option(
+            alloc,
+            "service",
+            "lines|books|tally",
+            "tally",
+            "What is made of the channel",
+        ))?
+        .arg(channel.value_parser(value_parser!(u8)))?
+        .arg(option(
+            alloc,
+            "source",
+            "ID",
+            "CIVUTHAM",
+            "The source id of requests, 1 to 20 bytes",
+        ))?
+        .arg(first.value_parser(value_parser!(u32)))?
+        .arg(repeated(
+            alloc,
+            "group",
+            "A.B.C.D",
+            "A destination group; without one, all",
+        ))?
+        .arg(port.value_parser(value_parser!(u16)))
+}
+
+// The options that say how much memory there is, and of what shape.
+fn with_tables<'a>(alloc: Global, command: Command<'a>) -> Result<Command<'a>, AllocError> {
+    let quota = repeated(alloc, "quota", "LIMIT", "A limit of the units on the shelf");
+    let books = option(alloc, "books", "N", "1024", "How many books are kept");
+    let depth = option(alloc, "depth", "D", "64", "The levels of a side of a book");
+    let rows = option(alloc, "rows", "R", "1024", "The rows of executed volume");
+    command
+        .arg(option(
+            alloc,
+            "shelf",
+            "slots|chain=RECORDS",
+            "chain=65535",
+            "Where early packets wait",
+        ))?
+        .arg(quota.value_parser(value_parser!(u32)))?
+        .arg(books.value_parser(value_parser!(u32)))?
+        .arg(depth.value_parser(value_parser!(u32)))?
+        .arg(rows.value_parser(value_parser!(u32)))
+}
+
 /// The command line of the program.
 pub fn command<'a>(alloc: Global) -> Result<Command<'a>, AllocError> {
     let print = Arg::new(alloc, "print")
@@ -76,57 +127,9 @@ pub fn command<'a>(alloc: Global) -> Result<Command<'a>, AllocError> {
         .value_name("FILE.pcap")
         .required(true)
         .help("The capture");
-    Command::new(alloc, "replay")
-        .about(ABOUT)
-        .after_help(AFTER)
-        .arg(option(
-            alloc,
-            "service",
-            "lines|books|tally",
-            "tally",
-            "What is made of the channel",
-        ))?
-        .arg(option(alloc, "channel", "N", "1", "The channel's number").value_parser(value_parser!(
-            u8
-        )))?
-        .arg(option(
-            alloc,
-            "source",
-            "ID",
-            "CIVUTHAM",
-            "The source id of requests, 1 to 20 bytes",
-        ))?
-        .arg(option(alloc, "first", "N", "1", "The first number of the day").value_parser(
-            value_parser!(u32),
-        ))?
-        .arg(repeated(
-            alloc,
-            "group",
-            "A.B.C.D",
-            "A destination group; without one, all",
-        ))?
-        .arg(repeated(alloc, "port", "P", "A destination port; without one, all").value_parser(
-            value_parser!(u16),
-        ))?
-        .arg(option(
-            alloc,
-            "shelf",
-            "slots|chain=RECORDS",
-            "chain=65535",
-            "Where early packets wait",
-        ))?
-        .arg(repeated(alloc, "quota", "LIMIT", "A limit of the units on the shelf").value_parser(
-            value_parser!(u32),
-        ))?
-        .arg(option(alloc, "books", "N", "1024", "How many books are kept").value_parser(
-            value_parser!(u32),
-        ))?
-        .arg(option(alloc, "depth", "D", "64", "The levels of a side of a book").value_parser(
-            value_parser!(u32),
-        ))?
-        .arg(option(alloc, "rows", "R", "1024", "The rows of executed volume").value_parser(
-            value_parser!(u32),
-        ))?
+    let command = Command::new(alloc, "replay").about(ABOUT).after_help(AFTER);
+    let command = with_channel(alloc, command)?;
+    with_tables(alloc, command)?
         .arg(option(alloc, "out", "DIR", ".", "The folder that is written to"))?
         .arg(print)?
         .arg(file)

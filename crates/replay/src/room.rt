@@ -11,7 +11,7 @@ use crate::sinks::Day;
 use any_shelf::AnyShelf;
 use anyhow::anyhow;
 use books::{Book, BookKeeper, Level, Tables};
-use capture::{FILE_HEADER, Format};
+use capture::{FILE_HEADER, Format, RecordFault};
 use channel::{Channel, ChannelFault};
 use journal::{Journal, LossRows, RunRows, Tail};
 use operator::Desk;
@@ -76,6 +76,13 @@ fn open_capture(rt: &HostRuntime, name: &str) -> anyhow::Result<Opened> {
     }
 }
 
+// A capture that is damaged at a byte.
+fn damaged(rt: &HostRuntime, name: &str, offset: u64, fault: RecordFault) -> anyhow::Result<()> {
+    Err(anyhow!(format!(in rt.alloc();
+        "{name}: damaged at byte {offset}: {fault}; what stands before it was replayed"
+    )?))
+}
+
 // Replays what is behind the header of a capture, and writes the reports; then tells of a damage.
 fn replay_day<S: Sink + Day, H: Shelf>(
     rt: &HostRuntime,
@@ -110,13 +117,7 @@ fn replay_day<S: Sink + Day, H: Shelf>(
         .report(rt, options, log.counts, channel.last())?;
     match end {
         End::Whole => Ok(()),
-        End::Damaged(fault) => {
-            let name = options.file;
-            let offset = opened.pieces.offset();
-            Err(anyhow!(format!(in rt.alloc();
-                "{name}: damaged at byte {offset}: {fault}; what stands before it was replayed"
-            )?))
-        }
+        End::Damaged(fault) => damaged(rt, options.file, opened.pieces.offset(), fault),
     }
 }
 
