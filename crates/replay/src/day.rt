@@ -87,7 +87,7 @@ fn step<S: Sink + Day, H: Shelf>(
 }
 
 /// Offers the records of a capture behind its header, to the end or the first damage.
-pub fn replay<S: Sink + Day, H: Shelf>(
+pub(crate) fn replay<S: Sink + Day, H: Shelf>(
     replayer: &mut Replayer<S, H>,
     log: &mut Log,
     reading: Reading<'_, '_>,
@@ -109,7 +109,7 @@ pub fn replay<S: Sink + Day, H: Shelf>(
 }
 
 /// Settles the claim in hand at the end of a day, and writes what is left.
-pub fn finish<S: Sink + Day, H: Shelf>(
+pub(crate) fn finish<S: Sink + Day, H: Shelf>(
     replayer: &mut Replayer<S, H>,
     log: &mut Log,
 ) -> anyhow::Result<()>
