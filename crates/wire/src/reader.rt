@@ -3,12 +3,12 @@ ghost use Rattle.std.specs.Prelude.{◌≡◌, ℕ, ◌+◌, ◌-◌, ◌%◌, �
 ghost use Rattle.std.specs.Option.{option_map};
 ghost use Rattle.std.proofs.Common.{rules};
 ghost use Rattle.wire.specs.Bytes.{first};
-ghost use Rattle.wire.specs.Reading.{Msg, full, delta, model, told, told_message, told_header, header_in, Fielded, kind_from, allowed, wrong_in_price_point, wrong_in_delta_point, wrong_in, reset_in, unavailable_in, mapping_in, update_in, body_in, reading};
+ghost use Rattle.wire.specs.Reading.{Msg, side, full, delta, model, told, told_message, told_header, header_in, Fielded, kind_from, allowed, wrong_in_price_point, wrong_in_delta_point, wrong_in, reset_in, unavailable_in, mapping_in, update_in, body_in, reading};
 ghost use Rattle.wire.specs.Laws.{Judged};
 
 use crate::fault::ReadFault;
 use crate::message::{Message, Packet};
-use crate::point::{DeltaPoint, PricePoint, Reason, Side};
+use crate::point::{DeltaPoint, PricePoint, Reason};
 use crate::points::Point;
 
 const LONGEST: usize = 1500;
@@ -63,6 +63,14 @@ impl Kind {
     }
 }
 
+// Whether a byte is the letter of a side.
+// Kept as a product: which letter it is cannot be foretold, and a branch at each letter, as in `Side::try_from`, is guessed wrong half of the time.
+fn is_side(letter: u8) -> bool
+    ensures { result ≡ side letter }
+{
+    u32::from(letter.wrapping_sub(b'B')) * u32::from(letter.wrapping_sub(b'S')) == 0
+}
+
 // What the reader knows of an update by its kind of point.
 trait Update: Point {
     // The offset of the scale, the bytes before the first point, and the fewest bytes that a packet may have.
@@ -114,7 +122,7 @@ impl Update for PricePoint {
 
     #[tactic(auto, unfolding(crate::specs::Bytes::first))]
     fn wrong_byte(point: &[u8]) -> Option<usize> {
-        Side::try_from(point[10]).is_err().then_some(10)
+        (!is_side(point[10])).then_some(10)
     }
 
     fn message<'a>(index: u16, scale: u8, points: &'a [u8]) -> Message<'a> {
@@ -147,7 +155,7 @@ impl Update for DeltaPoint {
 
     #[tactic(auto, unfolding(crate::specs::Bytes::first))]
     fn wrong_byte(point: &[u8]) -> Option<usize> {
-        if Side::try_from(point[14]).is_err() {
+        if !is_side(point[14]) {
             Some(14)
         } else {
             Reason::try_from(point[15]).is_err().then_some(15)
