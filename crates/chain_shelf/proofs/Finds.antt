@@ -60,6 +60,13 @@ sized_lookup : (h : Packets) (k : ℕ) (p : List ℕ) → Sized h → lookup h k
 sized_lookup [] k p s e = absurd (let z : ◌≡◌ {A = ℕ} 0 1 = cc in omega arith)
 sized_lookup (x ∷ h) k p s e = let i = sized_lookup h k p s.2 in let l = s.1 in grind (arith, nat_tests)
 
+-- the chain behind the record that a search for k found
+pub seg_rest : (b : List ℕ) (k p : ℕ) → Sound b → Before b k p → Seg (next (mem b)) p (rest (mem b) k (heads b))
+seg_rest b k p s before =
+    let A = under (mem b) k (heads b) in
+    let B = rest (mem b) k (heads b) in
+    subst (λ t. Seg (next (mem b)) t B) (sym before.is) (seg_from (next (mem b)) 0 A B (subst (Seg (next (mem b)) 0) (sym (place (mem b) k (heads b))) s.chain))
+
 -- what stands behind the record that a search for k found, where b is read from v, which is kept
 module _ (b v : List ℕ) (x : b ≡ v) (k p at : ℕ) (whole : Kept v) (behind : Before v k p) (e : at ≡ next (mem b) p) where
   pub kept : Kept b
@@ -75,9 +82,7 @@ module _ (b v : List ℕ) (x : b ≡ v) (k p at : ℕ) (whole : Kept v) (behind 
   B = rest (mem b) k (heads b)
 
   left : Seg (next (mem b)) p B
-  left =
-      subst (λ t. Seg (next (mem b)) t B) (sym before.is)
-      (seg_from (next (mem b)) 0 (under (mem b) k (heads b)) B (subst (Seg (next (mem b)) 0) (sym (place (mem b) k (heads b))) s.chain))
+  left = seg_rest b k p s before
 
   at_is : at ≡ first B
   at_is = e ∙ seg_first (next (mem b)) p B left

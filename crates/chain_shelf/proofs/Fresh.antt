@@ -36,5 +36,6 @@ fresh_sound b l z t c h e =
     let R = records b in
     let f : walk g (R - 1 - 0) (g 0) ≡ walk g (R - 1) 1 = let a : g 0 ≡ 1 = h 0 (omega arith) in let e : R - 1 - 0 ≡ R - 1 = omega arith in (λ i. walk g (e i) (a i)) in
     let x = row g R (R - 1) 1 (omega arith) h in
-    sound_of b [] [] (walk g (R - 1) 1) z refl (omega arith) f
-    (λ q. let y = (x q).0 in omega arith) (λ q i. let y = (x q).1 (omega arith) in (omega (arith, y.0), omega (arith, y.1))) (let a = ap g (ap (λ n. last 0 (walk g n 1)) (let y : R - 1 ≡ suc (R - 2) = omega arith in y) ∙ row_last g R (R - 2) 1 0 (omega arith) h ∙ (let y : 1 + (R - 2) ≡ R - 1 = omega arith in y)) in omega arith) t c tt tt
+    let y = sound_of b [] [] (walk g (R - 1) 1) z refl (omega arith) f
+    (λ q. let y = (x q).0 in omega arith) (λ q i. let y = (x q).1 (omega arith) in (omega (arith, y.0), omega (arith, y.1))) (let a = ap g (ap (λ n. last 0 (walk g n 1)) (let y : R - 1 ≡ suc (R - 2) = omega arith in y) ∙ row_last g R (R - 2) 1 0 (omega arith) h ∙ (let y : 1 + (R - 2) ≡ R - 1 = omega arith in y)) in omega arith) t c tt tt in
+    (y.0, y.1)

@@ -1,16 +1,17 @@
 -- A packet that is laid in.
-use Rattle.std.proofs.Common.{◌≡◌, ℕ, zero, suc, ◌+◌, ◌-◌, ◌/◌, ◌^◌, ◌<◌, ◌≤◌, false, List, ◌∷◌, ◌++◌, length, sym, refl, ap, ◌∙◌, subst, ⊎_elim, arith}
+use Rattle.std.proofs.Common.{◌≡◌, ℕ, zero, suc, ◌+◌, ◌-◌, ◌/◌, ◌^◌, ◌<◌, ◌≤◌, false, List, [], ◌∷◌, ◌++◌, length, sym, refl, ap, ◌∙◌, subst, ⊎_elim, arith}
 use Rattle.std.proofs.lemmas.Bool.{cases_eq}
 use Rattle.chain_shelf.specs.Records.{Mem, mem, records, link, next, size, tail, span, walk, gather, hit, cnt, heads, Apart, Inside, under, last}
 use Rattle.shelf.specs.Store.{units, Up, Sized, has, insert}
-use Rattle.chain_shelf.specs.Chain.{pack, layout, packets, tally, loose, packs, held, spent, free, Seg, Sound, LaidIn}
+use Rattle.chain_shelf.specs.Chain.{pack, layout, packets, tally, loose, packs, held, spent, free, Seg, Sound, Before, LaidIn}
 use Rattle.chain_shelf.proofs.Fills.{hit_not, cnt_first}
 use Rattle.chain_shelf.proofs.Counts.{cnt_append, tally_append, layout_append, packets_append, ahead, ahead_last, walk_split, walk_keep, walk_turn, last_in, last_link, loose_append, loose_keep}
 use Rattle.chain_shelf.proofs.Frames.{layout_same, heads_tally}
 use Rattle.chain_shelf.proofs.Segs.{seg_in, seg_from, seg_end, last_append}
 use Rattle.shelf.proofs.Kept.{up_insert, sized_insert, units_insert}
-use Rattle.chain_shelf.proofs.Places.{place, insert_place, rest}
+use Rattle.chain_shelf.proofs.Places.{place, insert_place, rest, under_rest, under_over, under_same}
 use Rattle.chain_shelf.proofs.Sounds.{sound_of}
+use Rattle.chain_shelf.proofs.Trails.{under_none}
 
 packs_split : (b : List ℕ) (k : ℕ) → packs b ≡ layout (mem b) (under (mem b) k (heads b)) ++ layout (mem b) (rest (mem b) k (heads b))
 packs_split b k = sym (ap (layout (mem b)) (place (mem b) k (heads b))) ∙ layout_append (mem b) (under (mem b) k (heads b)) (rest (mem b) k (heads b))
@@ -149,7 +150,7 @@ module _ (b d : List ℕ) (k : ℕ) (xs : List ℕ) (s : Sound b) (len : length 
       let f = last_link (link m) (link w) 0 (last 0 X) Y li.free (λ t l. links_kept t (omega arith) (not_stop t (let o = once t in omega arith))) ∙ ap (link m) (sym (ap (last 0) free_is ∙ last_append 0 X Y)) in
       omega (arith, s.marked, loose_halves b k, loose_append w (layout m A) ((k, xs, X) ∷ layout m B), li.mark)
 
-  pub put_sound : Sound d × (held d ≡ insert k xs (held b))
+  put_sound : Sound d × (held d ≡ insert k xs (held b)) × (heads d ≡ A ++ r ∷ B)
   put_sound =
       let R : records d ≡ records b = ap (λ t. t / 64) len in
       let L = layout m A ++ (k, xs, X) ∷ layout m B in
@@ -164,7 +165,17 @@ module _ (b d : List ℕ) (k : ℕ) (xs : List ℕ) (s : Sound b) (len : length 
       (let h = s.counted in let i = li.counted in omega arith)
       (subst (Up 0) (sym goes_in) (up_insert 0 k xs (held b) (omega arith) wide s.rising absent))
       (subst Sized (sym goes_in) (sized_insert k xs (held b) lo hi s.sized)) in
-      (z.0, z.1 ∙ goes_in)
+      (z.0, z.1 ∙ goes_in, z.2)
+
+  -- what comes before a number that is not above k stays
+  put_near : (j p : ℕ) → j ≤ k → Before b j p → Before d j p
+  put_near j p l before =
+      let n : under w j (r ∷ B) ≡ [] = under_none w j r B (omega (arith, li.numbered)) in
+      let e = ap (under w j) put_sound.2 ∙ under_over w j A (r ∷ B) n ∙ under_same m w j A a_same ∙ sym (under_over m j A B (under_rest m j k (heads b) l)) ∙ ap (under m j) (place m k (heads b)) in
+      record { is = before.is ∙ sym (ap (last 0) e); within = omega (arith, before.within, ap (λ t. t / 64) len) }
+
+  pub put_done : Sound d × (held d ≡ insert k xs (held b)) × ((j p : ℕ) → j ≤ k → Before b j p → Before d j p)
+  put_done = (put_sound.0, put_sound.1, put_near)
 
 -- the first free records
 module _ (b : List ℕ) (n : ℕ) (s : Sound b) (fits : spent b + n ≤ records b - 1) where

@@ -16,7 +16,7 @@ pub sound_of : (b hs : List ℕ) (L : List Pack) (fs : List ℕ)
     → walk (link (mem b)) (records b - 1 - units (span 10) (packets L)) (link (mem b) 0) ≡ fs
     → ((q : ℕ) → tally q L + cnt q fs ≤ 1) → ((q : ℕ) → 0 < tally q L + cnt q fs → (0 < q) × (q < records b))
     → loose (mem b) L + link (mem b) (last 0 fs) ≡ 0 → tail (mem b) ≡ last 0 hs → in_use (mem b) ≡ units (span 10) (packets L)
-    → Up 0 (packets L) → Sized (packets L) → Sound b × (held b ≡ packets L)
+    → Up 0 (packets L) → Sized (packets L) → Sound b × (held b ≡ packets L) × (heads b ≡ hs)
 sound_of b hs L fs ch la ro fr on ins ma en co up si =
     let n = heads_units (mem b) hs in
     let u : units (span 10) (packets (layout (mem b) hs)) ≡ units (span 10) (packets L) = ap (λ t. units (span 10) (packets t)) la in
@@ -36,4 +36,5 @@ sound_of b hs L fs ch la ro fr on ins ma en co up si =
         sized = subst (λ t. Sized (packets t)) (sym p) si;
       },
       ap packets p,
+      e,
     )

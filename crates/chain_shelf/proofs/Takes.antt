@@ -1,13 +1,13 @@
 -- A packet that is taken out.
-use Rattle.std.proofs.Common.{◌≡◌, ℕ, ◌+◌, ◌-◌, ◌/◌, ◌<◌, ◌≤◌, List, ◌∷◌, ◌++◌, length, sym, ap, ◌∙◌, subst, inl, arith}
+use Rattle.std.proofs.Common.{◌≡◌, ℕ, ◌+◌, ◌-◌, ◌/◌, ◌<◌, ◌≤◌, List, [], ◌∷◌, ◌++◌, length, sym, ap, ◌∙◌, subst, inl, arith}
 use Rattle.chain_shelf.specs.Records.{Mem, mem, records, link, next, number, size, tail, span, walk, cnt, heads, Apart, under, last}
 use Rattle.shelf.specs.Store.{units, Up, Sized, remove}
-use Rattle.chain_shelf.specs.Chain.{pack, layout, packets, tally, loose, packs, held, spent, free, Seg, Sound, TakenOut}
+use Rattle.chain_shelf.specs.Chain.{pack, layout, packets, tally, loose, packs, held, spent, free, Seg, Sound, Before, TakenOut}
 use Rattle.chain_shelf.proofs.Counts.{cnt_append, tally_append, layout_append, packets_append, ahead_last, walk_split, walk_keep, walk_turn, last_in, last_link, loose_append, loose_keep}
 use Rattle.chain_shelf.proofs.Frames.{layout_same, heads_tally, link_same, pack_length}
 use Rattle.chain_shelf.proofs.Segs.{seg_out, seg_from, seg_end, last_append}
 use Rattle.shelf.proofs.Kept.{up_remove, sized_remove, units_remove}
-use Rattle.chain_shelf.proofs.Places.{place, remove_place, lookup_place, rest}
+use Rattle.chain_shelf.proofs.Places.{place, remove_place, lookup_place, rest, under_rest, under_over, under_same, under_behind}
 use Rattle.chain_shelf.proofs.Puts.{halves, loose_halves, last_of, heads_apart}
 use Rattle.chain_shelf.proofs.Sounds.{sound_of}
 
@@ -113,7 +113,7 @@ module _ (b d : List ℕ) (k h : ℕ) (B : List ℕ) (s : Sound b) (len : length
       ∙ (λ i. turned i ++ walk (link w) F ((ahead_last (link w) ((size m h - 54 + 61) / 62) h ∙ ap (λ t. link w (last h t)) turned ∙ to.back) i))
       ∙ ap (λ t. X ++ t) (walk_keep (link m) (link w) F (link m 0) free_kept)
 
-  pub take_sound : Sound d × (held d ≡ remove k (held b))
+  take_sound : Sound d × (held d ≡ remove k (held b)) × (heads d ≡ A ++ B)
   take_sound =
       let R : records d ≡ records b = ap (λ t. t / 64) len in
       let L = layout m A ++ layout m B in
@@ -130,4 +130,14 @@ module _ (b d : List ℕ) (k h : ℕ) (B : List ℕ) (s : Sound b) (len : length
       (let i = s.counted in let j = to.counted in omega arith)
       (subst (Up 0) (sym goes_out) (up_remove 0 k (held b) s.rising))
       (subst Sized (sym goes_out) (sized_remove k (held b) s.sized)) in
-      (y.0, y.1 ∙ goes_out)
+      (y.0, y.1 ∙ goes_out, y.2)
+
+  -- what comes before a number that is not above k stays
+  take_near : (j p : ℕ) → j ≤ k → Before b j p → Before d j p
+  take_near j p l before =
+      let n : under w j B ≡ [] = under_same m w j B b_same ∙ under_behind m j k 0 (heads b) h B s.rising is num l in
+      let e = ap (under w j) take_sound.2 ∙ under_over w j A B n ∙ under_same m w j A a_same ∙ sym (under_over m j A (rest m k (heads b)) (under_rest m j k (heads b) l)) ∙ ap (under m j) (place m k (heads b)) in
+      record { is = before.is ∙ sym (ap (last 0) e); within = omega (arith, before.within, ap (λ t. t / 64) len) }
+
+  pub take_done : Sound d × (held d ≡ remove k (held b)) × ((j p : ℕ) → j ≤ k → Before b j p → Before d j p)
+  take_done = (take_sound.0, take_sound.1, take_near)

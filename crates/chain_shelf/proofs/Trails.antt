@@ -1,7 +1,7 @@
 -- Steps of a walk along the packets.
-use Rattle.std.specs.Prelude.{◌≡◌, ℕ, zero, suc, ◌-◌, ◌<◌, List, [], ◌∷◌, ◌≢◌, refl}
+use Rattle.std.specs.Prelude.{◌≡◌, ℕ, zero, suc, ◌-◌, ◌<◌, ◌≤◌, List, [], ◌∷◌, ◌≢◌, refl}
 use Rattle.std.proofs.Common.{ap, arith}
-use Rattle.std.proofs.lemmas.Bool.{ne_eqb, lt-ltb}
+use Rattle.std.proofs.lemmas.Bool.{ne_eqb, lt-ltb, le-ltb}
 use Rattle.chain_shelf.specs.Records.{Mem, number, trail, under}
 
 pub trail_more : (g : ℕ → ℕ) (f r : ℕ) → 0 < f → (r ≢ 0) → trail g f r ≡ r ∷ trail g (f - 1) (g r)
@@ -14,3 +14,6 @@ trail_none g (suc f) r e = ap (trail g (suc f)) e
 
 pub under_more : (m : Mem) (k h : ℕ) (hs : List ℕ) → number m h < k → under m k (h ∷ hs) ≡ h ∷ under m k hs
 under_more m k h hs l = let e = lt-ltb (number m h) k l in simp e
+
+pub under_none : (m : Mem) (k h : ℕ) (hs : List ℕ) → k ≤ number m h → under m k (h ∷ hs) ≡ []
+under_none m k h hs l = let e = le-ltb (number m h) k l in simp e

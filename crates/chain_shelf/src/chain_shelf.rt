@@ -10,12 +10,28 @@ use crate::records::{BODY, HEAD, LAST, NEXT, SIZE, USED, copy, link_at, number_a
 use crate::region::{RECORD, Region};
 use shelf::{LONGEST, PutFault, Shelf, TakeFault, is_length};
 
+// The place of a number: the first record of the last packet whose number is below it, or the head.
+#[derive(Clone, Copy)]
+struct Near {
+    number: u64,
+    prev: u16,
+}
+
+// No number is below 0.
+const START: Near = Near {
+    number: 0,
+    prev: HEAD,
+};
+
 /// A shelf in a region: the records of each packet and the free records are chains.
 // Kept with `held` in the contracts: they speak of records beside the packets that they hold, and the trait of shelves names the meaning.
 #[derive(Drop)]
 pub struct ChainShelf {
     region: Vec<u8>,
+    // The place of the last walk, and of nothing in the region's bytes: what a shelf means does not speak of it.
+    near: Near,
     ghost kept: { Kept region.items },
+    ghost placed: { Before region.items near.number near.prev },
 }
 
 impl ChainShelf {
@@ -26,16 +42,21 @@ impl ChainShelf {
     {
         let mut region = Vec::from(region);
         free_all(&mut region[..]);
-        ChainShelf { region }
+        ChainShelf {
+            region,
+            near: START,
+        }
     }
 
-    // The first record of the last packet whose number is below the given one, or the head: a walk from the head.
+    // The first record of the last packet whose number is below the given one, or the head: a walk from the place of a number that is not above it.
     // Kept as a loop: tried with `successors` and `take_while`, the proof stops at what `last` requires, that each step finds a record of the region and that the chain ends.
-    fn walk_to(&self, number: u64) -> u16
+    fn walk_from(&self, near: Near, number: u64) -> u16
+        requires placed { Before self.now.region.items near.number near.prev }
+        requires low { near.number ≤ number }
         ensures { Before self.now.region.items number result }
     {
         let bytes = &self.region[..];
-        let mut prev = HEAD;
+        let mut prev = near.prev;
         while let Some(at) = link_at(bytes, prev, NEXT) {
             if u64::from(number_at(bytes, at)) >= number {
                 break;
@@ -45,15 +66,30 @@ impl ChainShelf {
         prev
     }
 
-    // The same, with no walk where the number is above every number held.
+    // The same, with no walk where the number is above every number held, and else from the place of the last walk, or the head.
     fn seek(&self, number: u64) -> u16
         ensures { Before self.now.region.items number result }
     {
         let bytes = &self.region[..];
         match link_at(bytes, HEAD, LAST) {
             Some(last) if u64::from(number_at(bytes, last)) < number => last,
-            _ => self.walk_to(number),
+            _ if self.near.number <= number => self.walk_from(self.near, number),
+            _ => self.walk_from(START, number),
         }
+    }
+
+    // The same, noted as the place of the last walk. The end of the chain is found without a walk, and is noted only where what was noted is above the number.
+    fn seek_and_note(&mut self, number: u64) -> u16
+        ensures place { Before self.old.region.items number result }
+        ensures region { self.new.region ≡ self.old.region }
+        ensures low { self.new.near.number ≤ number }
+    {
+        let prev = self.seek(number);
+        let walked = link_at(&self.region[..], prev, NEXT).is_some();
+        if walked || self.near.number > number {
+            self.near = Near { number, prev };
+        }
+        prev
     }
 
     // Kept as a number: that `prev` comes before a number is asked of the four functions below, and not a fact of a type: such a value would hold the bytes lent, and put and take write them.
@@ -86,6 +122,7 @@ impl ChainShelf {
         requires proper { right (length packet.now) ≡ true }
         requires absent { has (held self.old.region.items) number ≡ false }
         requires room { spent self.old.region.items + span 10 (length packet.now) ≤ records self.old.region.items - 1 }
+        requires low { self.old.near.number ≤ number }
         ensures held { held self.new.region.items ≡ insert number packet.now (held self.old.region.items) }
         ensures size { length self.new.region.items ≡ length self.old.region.items }
     {
@@ -97,6 +134,7 @@ impl ChainShelf {
         requires prev { Before self.old.region.items number prev }
         requires long { 1500 ≤ length buffer.old }
         requires present { has (held self.old.region.items) number ≡ true }
+        requires low { self.old.near.number ≤ number }
         ensures held { held self.new.region.items ≡ remove number (held self.old.region.items) }
         ensures count { length self.new.region.items ≡ length self.old.region.items }
         ensures size { Some result ≡ length_of (lookup (held self.old.region.items) number) }
@@ -116,7 +154,7 @@ impl From<ChainShelf> for Vec<u8> {
     ghost from_gives = { λ shelf bytes. (bytes ≡ shelf.region) × (vec_len bytes ≡ 64 * ((store shelf.region.items).total + 1)) };
 
     fn from(shelf: ChainShelf) -> Vec<u8> {
-        let ChainShelf { region } = shelf;
+        let ChainShelf { region, .. } = shelf;
         region
     }
 }
@@ -130,7 +168,7 @@ impl Shelf for ChainShelf {
         if !is_length(packet.len()) {
             return Err(PutFault::Length);
         }
-        let prev = self.seek(u64::from(number));
+        let prev = self.seek_and_note(u64::from(number));
         if self.stands_behind(prev, number) {
             return Err(PutFault::Held);
         }
@@ -146,7 +184,7 @@ impl Shelf for ChainShelf {
         if buffer.len() < LONGEST {
             return Err(TakeFault::Short);
         }
-        let prev = self.seek(u64::from(number));
+        let prev = self.seek_and_note(u64::from(number));
         if !self.stands_behind(prev, number) {
             return Ok(None);
         }
@@ -172,6 +210,7 @@ impl Shelf for ChainShelf {
     }
 
     fn clear(&mut self) {
+        self.near = START;
         free_all(&mut self.region[..]);
     }
 }

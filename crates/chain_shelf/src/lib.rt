@@ -10,6 +10,7 @@
 //! | a free one | 0-1 the next free record |
 //!
 //! Numbers rise from packet to packet. So the least number held is at the front, and a number above the last packet's is known to be absent.
+//! Any other is looked for from the place of the last walk, or from the front where that place is above it.
 // Kept as records of bytes that name one another by number, not as boxes: a shelf takes no memory but the region that it is given.
 // Kept as a number, not an Option, where a link is moved to another record, or is known to lead on: it is written as it was read, the mark of the end too.
 #![tactic(auto)]

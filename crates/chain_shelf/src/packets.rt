@@ -2,7 +2,7 @@
 ghost use Rattle.std.specs.Prelude.{◌≡◌, ℕ, ◌+◌, ◌-◌, ◌/◌, ◌%◌, ◌<◌, ◌≤◌, ◌⊎◌, [], length, if◌then◌else◌};
 ghost use Rattle.chain_shelf.specs.Records.{mem, records, link, next, number as number_of, size as size_of, tail, in_use, span, walk, cnt, Apart, Inside};
 ghost use Rattle.shelf.specs.Store.{right};
-ghost use Rattle.chain_shelf.specs.Chain.{held, end, PriceLaw, PricesWorked, Whole, Kept, LaidIn, TakenOut};
+ghost use Rattle.chain_shelf.specs.Chain.{held, end, PriceLaw, PricesWorked, Whole, Kept, Before, LaidIn, TakenOut};
 
 use crate::records::{
     BODY, END, HEAD, LAST, LINK, MORE, NEXT, NUMBER, SIZE, USED, fill, lay_in, link_at, read, write,
@@ -124,6 +124,7 @@ pub(crate) fn free_all(bytes: &mut [u8])
     requires { Whole bytes.old }
     ensures kept { Kept bytes.new }
     ensures held { held bytes.new ≡ [] }
+    ensures start { Before bytes.new 0 0 }
 {
     let count = (bytes.len() / RECORD) as u16;
     for r in 1..count - 1 {

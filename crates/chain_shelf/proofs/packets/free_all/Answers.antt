@@ -4,6 +4,7 @@ use Rattle.chain_shelf.specs.Records.{mem, records, link}
 use Rattle.chain_shelf.proofs.Frames.{link_same}
 use Rattle.chain_shelf.proofs.Sounds.{closed}
 use Rattle.chain_shelf.proofs.Fresh.{fresh_sound}
+use Rattle.chain_shelf.proofs.Walks.{before_start}
 use Rattle.chain_shelf.proofs.packets.free_all.Goals as goal
 
 pub returns : goal.returns
@@ -29,4 +30,5 @@ returns c =
     (λ (a : s ≡ 0 → ⊥). k s a ∙ n s l ∙ c.loop-r.invariant s (omega arith) (omega arith))
     (cases_eq s 0))
     (k (records d - 1) (λ y. omega arith) ∙ ap (link (mem u)) (ap (λ t. t - 1) R) ∙ c.write-2.ensures.there) in
-    record { kept = closed b d c.requires e z.0; held = z.1 }
+    let y = closed b d c.requires e z.0 in
+    record { kept = y; held = z.1; start = before_start d y.0 }

@@ -31,10 +31,10 @@ invariant_of-self c =
     let w = c.lay_packet.new.bytes in
     let v = c.args.self.now.region in
     let e = take_at w (drop (length w) v.items) v.len (omega (arith, c.lay_packet.auto.bytes, c.deref_mut.ensures.len)) in
-    record {
-      kept = (put_kept v.items c.deref_mut.result.now w _ c.args.number c.args.prev c.args.packet.now c.deref_mut.ensures.value e c.lay_packet.auto.bytes c.args.self.now.kept
-          c.requires.prev c.requires.proper c.requires.absent (omega arith) c.requires.room c.lay_packet.ensures).0;
-    }
+    let z = put_kept v.items c.deref_mut.result.now w _ c.args.number c.args.prev c.args.packet.now c.deref_mut.ensures.value e c.lay_packet.auto.bytes c.args.self.now.kept
+    c.requires.prev c.requires.proper c.requires.absent (omega arith) c.requires.room c.lay_packet.ensures in
+    let n = c.args.self.now.near in
+    record { kept = z.0; placed = z.2 n.number n.prev c.requires.low c.args.self.now.placed }
 
 pub returns-clause-held : goal.returns-clause-held
 returns-clause-held c =

@@ -64,7 +64,8 @@ invariant_of-self c =
     let v = c.args.self.now.region in
     let e = take_at w (drop (length w) v.items) v.len (omega (arith, c.unlink.auto.bytes, c.deref_mut.ensures.len)) in
     let z = take_kept v.items b w _ c.args.number c.args.prev h c.copy-stop.result c.deref_mut.ensures.value e c.unlink.auto.bytes c.args.self.now.kept c.requires.prev t l c.unlink.ensures in
-    record { kept = z.0 }
+    let n = c.args.self.now.near in
+    record { kept = z.0; placed = z.2 n.number n.prev c.requires.low c.args.self.now.placed }
 
 pub returns : goal.returns
 returns c =

@@ -1,15 +1,19 @@
-use Rattle.std.proofs.Common.{◌≡◌, length, sym, refl, ap, ◌∙◌, subst, arith}
+use Rattle.std.proofs.Common.{◌≡◌, length, sym, ap, ◌∙◌, subst, arith}
 use Rattle.chain_shelf.specs.Records.{mem, records, next, trail, under, last}
-use Rattle.chain_shelf.specs.Chain.{Kept}
+use Rattle.chain_shelf.specs.Chain.{Kept, Before}
 use Rattle.chain_shelf.specs.Sounds.{opened}
 use Rattle.chain_shelf.proofs.Trails.{under_more}
-use Rattle.chain_shelf.proofs.Walks.{Left, left_all, left_step}
-use Rattle.chain_shelf.proofs.chain_shelf.ChainShelf.walk_to.Goals as goal
+use Rattle.chain_shelf.proofs.Walks.{Left, left_near, left_step, last_near}
+use Rattle.chain_shelf.proofs.chain_shelf.ChainShelf.walk_from.Goals as goal
 
 pub loop-at-init : goal.loop-at-init
 loop-at-init c =
     let b = c.deref.result.now in
-    (omega arith, left_all b (opened b (subst Kept (sym c.deref.ensures.value) c.args.self.now.kept)), refl)
+    let x = sym c.deref.ensures.value in
+    let s = opened b (subst Kept x c.args.self.now.kept) in
+    let n = c.args.near in
+    let before = subst (λ b. Before b n.number n.prev) x c.requires.placed in
+    (before.within, left_near b n.number n.prev s before, last_near b n.number n.prev s before c.args.number c.requires.low)
 
 pub loop-at-smaller : goal.loop-at-smaller
 loop-at-smaller c =

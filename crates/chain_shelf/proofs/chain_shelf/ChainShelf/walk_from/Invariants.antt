@@ -1,7 +1,7 @@
 use Rattle.std.proofs.Common.{◌≡◌, ◌<◌, length}
 use Rattle.chain_shelf.specs.Records.{mem, records, next, trail, heads, under, last}
 use Rattle.chain_shelf.proofs.Walks.{Left}
-use Rattle.chain_shelf.proofs.chain_shelf.ChainShelf.walk_to.Given as goal
+use Rattle.chain_shelf.proofs.chain_shelf.ChainShelf.walk_from.Given as goal
 
 abbrev pub invariant-loop-at : goal.invariant-loop-at
 invariant-loop-at l =
