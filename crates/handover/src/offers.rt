@@ -1,10 +1,12 @@
 //! Handing over: the next number, what is held, a range, and a packet that is offered.
-ghost use Rattle.std.specs.Prelude.{◌≡◌, ℕ, ◌+◌, ◌-◌, ◌^◌, ◌<◌, ◌≤◌, true, false, List, [], length, Some};
+ghost use Rattle.std.specs.Prelude.{◌≡◌, ℕ, ◌+◌, ◌-◌, ◌^◌, ◌<◌, ◌≤◌, true, false, cond, List, [], length, Some};
 ghost use Rattle.order.specs.Machine.{turn};
 ghost use Rattle.order.specs.Machine.{carries, brought};
 ghost use Rattle.shelf.specs.Store.{has};
 ghost use Rattle.wire.specs.Reading.{model, packet_model};
 ghost use Rattle.handover.specs.Words.{on_ok, unless};
+ghost use Rattle.handover.specs.declared.fault.ChannelFault.TheVariants.{Behind};
+ghost use Rattle.handover.specs.declared.fault.OfferFault.TheVariants.{Channel};
 ghost use Rattle.handover.specs.Flows.{message_of, hand, hands_to, handed_on, takes, begins_at};
 ghost use Rattle.handover.specs.Offers.{against_data, against_range, against_refresh, against, flow_answer, flow_after};
 ghost use Rattle.handover.specs.Handovers.{flow};
@@ -134,7 +136,17 @@ impl<S: Sink, H: Shelf> Handover<S, H> {
         }
     }
 
-    // Offers a data packet. The next number is handed over and what is held behind it; an early one goes to the shelf.
+    // What a number is refused with: that it is behind, where it is held, and else the fault.
+    fn unless_held(&self, number: u32, fault: OfferFault) -> OfferFault
+        ensures { result ≡ cond (has (H.Shelf.means self.now.shelf).held number) (Channel Behind) fault }
+    {
+        if !self.shelf.holds(number) {
+            return fault;
+        }
+        ChannelFault::Behind.into()
+    }
+
+    // Offers a data packet. The next number is handed over and what is held behind it; an early one goes to the shelf, which is asked whether it is held only where it refuses it.
     fn offer_data(
         &mut self,
         number: u32,
@@ -146,14 +158,20 @@ impl<S: Sink, H: Shelf> Handover<S, H> {
         ensures answer { result ≡ unless (against_data self.old.last (H.Shelf.means self.old.shelf) number packet.now) tt }
         ensures after { flow (S.Sink) (H.Shelf) self.new scratch.new ≡ on_ok result (λ _. takes S.Sink.step (carries number (model message.entry)) packet.now (flow (S.Sink) (H.Shelf) self.old scratch.old)) (flow (S.Sink) (H.Shelf) self.old scratch.old) }
     {
-        if number <= self.last || self.shelf.holds(number) {
+        if number <= self.last {
             return Err(ChannelFault::Behind.into());
         }
         if number as u64 > self.last as u64 + WINDOW {
-            return Err(ChannelFault::Far.into());
+            return Err(self.unless_held(number, ChannelFault::Far.into()));
         }
         if number - self.last > 1 {
-            return Ok(self.shelf.put(number, packet)?);
+            return self
+                .shelf
+                .put(number, packet)
+                .map_err(|fault| self.unless_held(number, fault.into()));
+        }
+        if self.shelf.holds(number) {
+            return Err(ChannelFault::Behind.into());
         }
         self.sink.data(number, message);
         self.last = number;
