@@ -1,7 +1,8 @@
 -- What the laws of a rank give of rows in order.
-use Rattle.std.proofs.Common.{◌≡◌, ℕ, zero, suc, ◌-◌, ◌<◌, ◌≤◌, min, Bool, true, false, cond, ltb, List, [], ◌∷◌, ◌++◌, length, get_or, take, drop, sym, refl, ap, ◌∙◌, subst, ⊎_elim, arith}
-use Rattle.std.proofs.lemmas.Bool.{cond_both, both_ways, cases_Bool, cases_lt, ltb-true}
-use Rattle.ladder.specs.Ladders.{flags, halved_place, last_before, lead, front_place, place, past, entered, removed}
+use Rattle.std.proofs.Common.{◌≡◌, ℕ, zero, suc, ◌-◌, ◌<◌, ◌≤◌, min, Bool, true, false, cond, List, [], ◌∷◌, ◌++◌, length, get_or, take, drop, sym, refl, ap, ◌∙◌, subst, ⊎_elim, arith}
+use Rattle.std.proofs.lemmas.Bool.{cond_both, both_ways, cases_Bool, cases_lt}
+use Rattle.std.proofs.lemmas.List.{get_or_default, length-map}
+use Rattle.ladder.specs.Ladders.{flags, halved_place, last_before, hits, far_place, place, past, entered, removed}
 use Rattle.ladder.specs.Laws.{First, Sorted, placed, inserted, without}
 use Rattle.ladder.proofs.Halves.{halved_is}
 
@@ -19,14 +20,6 @@ module _ {X K : Type 0} (key : X → K) (before : K → K → Bool) where
       elim (before (key x) k) as (λ b. 0 < cond b (suc (placed key before k xs)) 0 → b ≡ true) [ true ↦ λ h. refl | false ↦ λ h. absurd (omega arith) ] h
   front k (x ∷ xs) (suc i) h =
       elim (before (key x) k) as (λ b. suc i < cond b (suc (placed key before k xs)) 0 → get_or (flags key before k xs) i false ≡ true) [ true ↦ λ h. front k xs i (omega arith) | false ↦ λ h. absurd (omega arith) ] h
-
-  -- the looks at the first n rows find it, where it is among them
-  lead_placed : (n : ℕ) (k : K) (xs : List X) → lead n (flags key before k xs) ≡ min n (placed key before k xs)
-  lead_placed zero k xs = omega arith
-  lead_placed (suc n) k [] = omega arith
-  lead_placed (suc n) k (x ∷ xs) =
-      let h = lead_placed n k xs in
-      elim (before (key x) k) as (λ b. cond b (suc (lead n (flags key before k xs))) 0 ≡ min (suc n) (cond b (suc (placed key before k xs)) 0)) [ true ↦ omega (arith, h) | false ↦ omega arith ]
 
   plain_in : (r : X) (xs : List X) → take (placed key before (key r) xs) xs ++ r ∷ past key before (key r) (drop (placed key before (key r) xs) xs) ≡ inserted key before r xs
   plain_in r [] = refl
@@ -81,15 +74,37 @@ module _ {X K : Type 0} (key : X → K) (before : K → K → Bool) where
         (λ h. absurd (both_ways _ (rest k xs (length xs - 1) s h) t))
         (cases_lt (length xs - 1) (placed key before k xs))
 
-    by_front : (k : K) (xs : List X) → Sorted key before xs → front_place key before k xs ≡ placed key before k xs
-    by_front k xs s =
-        cond_both (ltb (lead 8 (flags key before k xs)) 8) _ _ (λ x. x ≡ placed key before k xs)
-        (λ t. omega (arith, ltb-true _ 8 t, lead_placed 8 k xs))
-        (λ f. by_halves k xs s)
+    by_far : (k : K) (xs : List X) → Sorted key before xs → far_place key before k xs ≡ placed key before k xs
+    by_far k xs s =
+        cond_both (last_before key before k xs) (length xs) (halved_place key before k xs) (λ x. x ≡ placed key before k xs) (by_last k xs s) (λ f. by_halves k xs s)
+
+    -- the rows that come before k are the first ones, so of n rows there are so many
+    hits_none : (n : ℕ) (k : K) (xs : List X) → ((i : ℕ) → get_or (flags key before k xs) i false ≡ false) → hits (flags key before k (take n xs)) ≡ 0
+    hits_none zero k xs h = refl
+    hits_none (suc n) k [] h = refl
+    hits_none (suc n) k (x ∷ xs) h = let r = hits_none n k xs (λ i. h (suc i)) in rw (h 0) (omega (arith, r))
+
+    hits_placed : (n : ℕ) (k : K) (xs : List X) → Sorted key before xs → hits (flags key before k (take n xs)) ≡ min n (placed key before k xs)
+    hits_placed zero k xs s = omega arith
+    hits_placed (suc n) k [] s = omega arith
+    hits_placed (suc n) k (x ∷ xs) s =
+        ⊎_elim {C = hits (flags key before k (take (suc n) (x ∷ xs))) ≡ min (suc n) (placed key before k (x ∷ xs))}
+        (λ t. let h = hits_placed n k xs s.1 in rw t (omega (arith, h)))
+        (λ f. let h = hits_none n k xs (λ i. none_later k x xs (suc i) s f) in rw f (omega (arith, h)))
+        (cases_Bool (before (key x) k))
+
+    -- where the eighth row does not come before k, fewer than eight do
+    few : (k : K) (xs : List X) → get_or (flags key before k xs) 7 true ≡ false → placed key before k xs < 8
+    few k xs e =
+        ⊎_elim {C = placed key before k xs < 8} (λ h. h)
+        (λ h. absurd (both_ways _ e (get_or_default (flags key before k xs) 7 true false (omega (arith, h, placed_le k xs, length-map xs (λ x. before (key x) k))) ∙ front k xs 7 h)))
+        (cases_lt (placed key before k xs) 8)
 
     pub place_is : (k : K) (xs : List X) → Sorted key before xs → place key before k xs ≡ placed key before k xs
     place_is k xs s =
-        cond_both (last_before key before k xs) (length xs) (front_place key before k xs) (λ x. x ≡ placed key before k xs) (by_last k xs s) (λ f. by_front k xs s)
+        cond_both (get_or (flags key before k xs) 7 true) (far_place key before k xs) (hits (flags key before k (take 8 xs))) (λ x. x ≡ placed key before k xs)
+        (λ t. by_far k xs s)
+        (λ f. omega (arith, hits_placed 8 k xs s, few k xs f))
 
     inserted_sorted : (r : X) (xs : List X) → Sorted key before xs → Sorted key before (inserted key before r xs)
     inserted_sorted r [] s = (tt, tt)

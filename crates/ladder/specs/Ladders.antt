@@ -1,6 +1,6 @@
--- Ladders: rows that are looked up at the last, then at the first ones, then by halves. `key` gives a row's key, and `before` says which of two keys comes first.
+-- Ladders: rows that are looked up at the first ones, then at the last, then by halves. `key` gives a row's key, and `before` says which of two keys comes first.
 -- All of it is defined for any rows, in order or not.
-use Rattle.std.specs.Prelude.{◌≡◌, ℕ, zero, suc, ◌+◌, ◌-◌, ◌/◌, ◌<◌, ◌≤◌, Bool, false, cond, not, List, [], ◌∷◌, ◌++◌, map, length, take, drop, Some, None, Option, nat_lt, slice_index_or}
+use Rattle.std.specs.Prelude.{◌≡◌, ℕ, zero, suc, ◌+◌, ◌-◌, ◌/◌, ◌<◌, ◌≤◌, Bool, true, false, cond, not, List, [], ◌∷◌, ◌++◌, map, length, take, drop, Some, None, Option, nat_lt, slice_index_or}
 
 -- the place between low and high where the flags turn from true to false, looked for by halves, in at most n looks
 abbrev pub halved : ℕ → List Bool → ℕ → ℕ → ℕ
@@ -24,19 +24,18 @@ halved_place key before k xs = halved (length xs) (flags key before k xs) 0 (len
 abbrev pub last_before : {X K : Type 0} → (X → K) → (K → K → Bool) → K → List X → Bool
 last_before key before k xs = slice_index_or (flags key before k xs) (length xs - 1) false
 
--- how many of the first n flags are true before the first that is false
-abbrev pub lead : ℕ → List Bool → ℕ
-lead zero bs = 0
-lead (suc n) [] = 0
-lead (suc n) (b ∷ bs) = cond b (suc (lead n bs)) 0
+-- how many flags are true
+abbrev pub hits : List Bool → ℕ
+hits [] = 0
+hits (b ∷ bs) = cond b 1 0 + hits bs
 
--- the place of the key k: among the first eight rows, looked at one after the other, and else by halves
-abbrev pub front_place : {X K : Type 0} → (X → K) → (K → K → Bool) → K → List X → ℕ
-front_place key before k xs = cond (nat_lt (lead 8 (flags key before k xs)) 8) (lead 8 (flags key before k xs)) (halved_place key before k xs)
+-- the place of the key k among many rows: behind the last, where that comes before it, and else by halves
+abbrev pub far_place : {X K : Type 0} → (X → K) → (K → K → Bool) → K → List X → ℕ
+far_place key before k xs = cond (last_before key before k xs) (length xs) (halved_place key before k xs)
 
--- the place of the key k: behind the last row, where that comes before it, and else from the front
+-- the place of the key k: where there is an eighth row that does not come before it, behind as many rows as come before it among the first eight
 abbrev pub place : {X K : Type 0} → (X → K) → (K → K → Bool) → K → List X → ℕ
-place key before k xs = cond (last_before key before k xs) (length xs) (front_place key before k xs)
+place key before k xs = cond (slice_index_or (flags key before k xs) 7 true) (far_place key before k xs) (hits (flags key before k (take 8 xs)))
 
 -- the first row, if there is one, has the key k: k is not before it
 abbrev pub held : {X K : Type 0} → (X → K) → (K → K → Bool) → K → List X → Bool

@@ -5,7 +5,7 @@
 #![tactic(auto)]
 
 ghost use Rattle.std.specs.Prelude.{◌≡◌, ◌<◌, ◌≤◌, Bool, true, false, ◌++◌, length, take, drop, MatchResult};
-ghost use Rattle.ladder.specs.Ladders.{place as place_of, front_place, halved_place, lead as lead_of, flags, entered, removed, Found, Holds, Settled};
+ghost use Rattle.ladder.specs.Ladders.{place as place_of, far_place, halved_place, hits, flags, entered, removed, Found, Holds, Settled};
 ghost use Rattle.ladder.specs.Laws.{Laws};
 
 use std::marker::PhantomData;
@@ -88,43 +88,42 @@ fn halve<R: Rank>(rows: &[R::Row], key: R::Key) -> usize
     low
 }
 
-// How many of the first eight rows come before a key, up to the first that does not.
-fn lead<R: Rank>(rows: &[R::Row], key: R::Key) -> usize
+// How many rows come before a key.
+// Kept as a sum over all: it has no branch. Where a change is among the best levels cannot be foretold, and a walk up to it would be guessed wrong once in each search.
+fn ahead<R: Rank>(rows: &[R::Row], key: R::Key) -> usize
     ensures within { result ≤ length rows.now }
-    ensures is { result ≡ lead_of 8 (flags R.keyed R.before key rows.now) }
+    ensures is { result ≡ hits (flags R.keyed R.before key rows.now) }
 {
-    let end = rows.len().min(8);
-    let mut at = 0;
-    while at < end && R::precedes(R::key(&rows[at]), key) {
-        at += 1;
+    let mut count = 0;
+    for row in rows {
+        count += usize::from(R::precedes(R::key(row), key));
     }
-    at
+    count
 }
 
-// The place of a key among the rows: one of the first eight, where most changes of a book are, or else by halves.
-#[tactic(auto, using(crate::proofs::Places::near_place, crate::proofs::Places::far_place))]
-fn front<R: Rank>(rows: &[R::Row], key: R::Key) -> usize
-    ensures within { result ≤ length rows.now }
-    ensures is { result ≡ front_place R.keyed R.before key rows.now }
-{
-    let at = lead::<R>(rows, key);
-    if at < 8 {
-        return at;
-    }
-    halve::<R>(rows, key)
-}
-
-// The place of a key among the rows: behind the last, where rows come in their order, or else from the front.
+// The place of a key among many rows: behind the last, where rows come in their order, or else by halves.
 #[tactic(auto, using(crate::proofs::Places::last_place, crate::proofs::Places::inner_place, crate::proofs::Places::empty_place))]
-fn place<R: Rank>(rows: &[R::Row], key: R::Key) -> usize
+fn far<R: Rank>(rows: &[R::Row], key: R::Key) -> usize
     ensures within { result ≤ length rows.now }
-    ensures is { result ≡ place_of R.keyed R.before key rows.now }
+    ensures is { result ≡ far_place R.keyed R.before key rows.now }
 {
     let count = rows.len();
     if count > 0 && R::precedes(R::key(&rows[count - 1]), key) {
         return count;
     }
-    front::<R>(rows, key)
+    halve::<R>(rows, key)
+}
+
+// The place of a key among the rows: among the first eight, where most changes of a book are, or else far.
+// Kept in this order: the last row lies in another line of memory, and is not looked at for a change near the best.
+fn place<R: Rank>(rows: &[R::Row], key: R::Key) -> usize
+    ensures within { result ≤ length rows.now }
+    ensures is { result ≡ place_of R.keyed R.before key rows.now }
+{
+    if rows.len() >= 8 && !R::precedes(R::key(&rows[7]), key) {
+        return ahead::<R>(&rows[..8], key);
+    }
+    far::<R>(rows, key)
 }
 
 // How many rows are used: no more than there are.
@@ -157,6 +156,16 @@ fn replace<R: Rank>(rows: &mut [R::Row], used: usize, at: usize, row: R::Row) ->
     count
 }
 
+// How many rows are moved where some have to be: whole eights, as far as there are so many.
+// What lies behind the used rows does not matter. With the count as it is, a copy ends in a loop over the rows that are left, and how many there are cannot be foretold.
+fn eights(rows: usize, most: usize) -> usize
+    requires { rows ≤ most }
+    ensures { (rows ≤ result) × (result ≤ most) }
+{
+    let whole = rows / 8 * 8;
+    if most - whole < 8 { most } else { whole + 8 }
+}
+
 // Adds a row at a place, and moves those from there on one place up.
 fn insert<R: Rank>(rows: &mut [R::Row], used: usize, at: usize, row: R::Row) -> Option<usize>
     requires { Found R.keyed R.before (R.keyed row) (take used rows.old) false at }
@@ -166,7 +175,8 @@ fn insert<R: Rank>(rows: &mut [R::Row], used: usize, at: usize, row: R::Row) -> 
     if count == rows.len() {
         return None;
     }
-    rows.copy_within(at..count, at + 1);
+    let moved = eights(count - at, rows.len() - 1 - at);
+    rows.copy_within(at..at + moved, at + 1);
     rows[at] = row;
     Some(count + 1)
 }
@@ -185,13 +195,13 @@ pub fn enter<R: Rank>(rows: &mut [R::Row], used: usize, row: R::Row) -> Option<u
 }
 
 // Takes a row out, and moves those behind it one place down.
-#[tactic(auto, using(crate::proofs::Edits::takes_out))]
 fn take_out<R: Rank>(rows: &mut [R::Row], used: usize, at: usize) -> usize
     requires { at < length (take used rows.old) }
     ensures { Holds rows.new result (take at (take used rows.old) ++ drop 1 (drop at (take used rows.old))) }
 {
     let count = counted(rows, used);
-    rows.copy_within(at + 1..count, at);
+    let moved = eights(count - (at + 1), rows.len() - (at + 1));
+    rows.copy_within(at + 1..at + 1 + moved, at);
     count - 1
 }
 
