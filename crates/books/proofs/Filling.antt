@@ -5,6 +5,7 @@ use Rattle.books.specs.declared.level.Point.{Point}
 use Rattle.books.specs.declared.tables.Tables.{Tables}
 use Rattle.books.specs.Entering.{Known, known, unknown, limited, filled, taken, begun, told, points_of, full_points, delta_points}
 use Rattle.books.specs.Keepers.{tabled, tables_known, changed_at, blank, Spot}
+use Rattle.books.specs.Laying.{Leaves}
 use Rattle.std.proofs.lemmas.Bool.{cond-true, cond-false}
 use Rattle.wire.specs.Points.{points, full_at, delta_at}
 use Rattle.books.specs.declared.level.Level.{Level}
@@ -40,6 +41,34 @@ module _ (t : Tables) (i : ℕ) (h : i < length t.books.now) where
       ap (changed_at (suc i) (filled t.depth ps)) e
       ∙ set-set ks i next _
       ∙ ap (set ks i) (ap (filled t.depth ps) (get_or-set_same ks i next unknown lt) ∙ sym (rw whole refl))
+
+  -- a change of the book after which the points qs do what ps did before
+  pub leaves : (u : Tables) (f : Known → Known) (ps qs : List Point) → u.depth ≡ t.depth → tables_known u ≡ changed_at (suc i) f (tables_known t)
+      → filled t.depth ps (get_or (tables_known t) i unknown) ≡ filled t.depth qs (f (get_or (tables_known t) i unknown)) → Leaves t u i ps qs
+  leaves u f ps qs d e q =
+      let ks = tables_known t in
+      let k = get_or ks i unknown in
+      let lt : i < length ks = omega (arith, h, rooms t) in
+      record {
+        depth = d;
+        told = ap (changed_at (suc i) (filled t.depth qs)) e ∙ set-set ks i (f k) _ ∙ ap (set ks i) (ap (filled t.depth qs) (get_or-set_same ks i (f k) unknown lt) ∙ sym q);
+      }
+
+-- no change
+pub leaves_all : (t : Tables) (i : ℕ) (ps : List Point) → Leaves t t i ps ps
+leaves_all t i ps = record { depth = refl; told = refl }
+
+-- a place among the books stays one
+pub leaves_among : (t u : Tables) (i : ℕ) (ps qs : List Point) → Leaves t u i ps qs → i < length t.books.now → i < length u.books.now
+leaves_among t u i ps qs l h = among u t i _ _ l.told h
+
+-- one change after another
+pub leaves_both : (t u v : Tables) (i : ℕ) (ps qs rs : List Point) → Leaves t u i ps qs → Leaves u v i qs rs → Leaves t v i ps rs
+leaves_both t u v i ps qs rs a b =
+    record {
+      depth = b.depth ∙ a.depth;
+      told = ap (λ d. changed_at (suc i) (filled d rs) (tables_known v)) (sym a.depth) ∙ b.told ∙ ap (λ d. changed_at (suc i) (filled d qs) (tables_known u)) a.depth ∙ a.told;
+    }
 
 -- a message to the book with the number n, which is at i, with its row as it was
 module _ (t : Tables) (n i : ℕ) (spot : Spot t n i) (s : Start) (ps : List Point) where

@@ -4,3 +4,4 @@ pub mod Filling
 pub mod Orders
 pub mod Limits
 mod Stale
+mod Behind

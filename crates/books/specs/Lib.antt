@@ -3,3 +3,4 @@ pub mod Levels
 pub mod Entering
 pub mod Keepers
 pub mod Laws
+pub mod Laying

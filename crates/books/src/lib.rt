@@ -5,6 +5,7 @@ mod book;
 mod by_price;
 mod fault;
 mod keeper;
+mod laying;
 mod level;
 mod reads;
 mod tables;

@@ -1,10 +1,12 @@
 //! What a message with points makes of its book.
-ghost use Rattle.std.specs.Prelude.{◌<◌, suc, length, replicate};
+ghost use Rattle.std.specs.Prelude.{◌<◌, suc, List, length, replicate};
 ghost use Rattle.books.specs.Entering.{limited, filled, told, points_of, unknown};
 ghost use Rattle.books.specs.Keepers.{tables_known, changed_at, Becomes};
+ghost use Rattle.books.specs.Laying.{pending, Leaves};
 
 use crate::book::{Book, Start};
 use crate::by_price::{Buys, Sells};
+use crate::laying::lay;
 use crate::level::{Point, change};
 use crate::tables::Tables;
 use wire::{Points, Side};
@@ -45,6 +47,63 @@ impl Tables<'_, '_, '_> {
         }
     }
 
+    // Lays points down on a side of the book at a place, where the book is whole and the side has no level. Gives the first point that is left.
+    // Kept inline, as `lay` is.
+    #[inline(always)]
+    fn lay_side<P: wire::Point>(
+        &mut self,
+        i: usize,
+        side: Side,
+        scale: u8,
+        first: Option<P>,
+        points: &mut Points<'_, P>,
+    ) -> Option<P>
+        requires { i < length self.old.books.now }
+        ensures { Leaves self.old self.new i (points_of P.named scale (pending first points.old)) (points_of P.named scale (pending result points.new)) }
+    {
+        let book = self.books[i];
+        let rows = self.rows(i);
+        match side {
+            Side::Buy if book.whole && book.buys == 0 => {
+                let (used, next) = lay(&mut self.buys[rows], side, scale, first, points);
+                self.books[i].buys = used as u16;
+                next
+            }
+            Side::Sell if book.whole && book.sells == 0 => {
+                let (used, next) = lay(&mut self.sells[rows], side, scale, first, points);
+                self.books[i].sells = used as u16;
+                next
+            }
+            _ => first,
+        }
+    }
+
+    // A point that is taken out already, if there is one, told to the book at a place while that is whole.
+    fn tell_first<P: wire::Point>(&mut self, i: usize, scale: u8, first: Option<P>)
+        requires { i < length self.old.books.now }
+        ensures { (ps : List P) → Leaves self.old self.new i (points_of P.named scale (pending first ps)) (points_of P.named scale ps) }
+    {
+        let Some(point) = first else {
+            return;
+        };
+        if self.books[i].whole {
+            self.put(i, Point::named(point.level(), scale));
+        }
+    }
+
+    // The points of a message to a book with no level: they are laid down as far as they come in the order of their side, and then told in order.
+    fn lay_out<P: wire::Point>(&mut self, i: usize, scale: u8, points: Points<'_, P>)
+        requires { i < length self.old.books.now }
+        ensures { Becomes self.old self.new (changed_at (suc i) (filled self.old.depth (points_of P.named scale points.entry)) (tables_known self.old)) }
+    {
+        let mut points = points;
+        let first = points.next();
+        let first = self.lay_side(i, Side::Buy, scale, first, &mut points);
+        let first = self.lay_side(i, Side::Sell, scale, first, &mut points);
+        self.tell_first(i, scale, first);
+        self.fill(i, scale, points);
+    }
+
     // A message with points to the book with a number.
     pub(crate) fn tell<P: wire::Point>(
         &mut self,
@@ -62,7 +121,10 @@ impl Tables<'_, '_, '_> {
             return;
         };
         self.books[i] = book;
-        self.fill(i, scale, points);
+        match start {
+            Start::Delta(_) => self.fill(i, scale, points),
+            _ => self.lay_out(i, scale, points),
+        }
     }
 
     // Nothing is known of any book.
