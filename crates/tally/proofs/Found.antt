@@ -1,17 +1,18 @@
 -- What a search among the rows found.
-use Rattle.std.proofs.Common.{◌≡◌, ℕ, ◌+◌, ◌^◌, ◌<◌, ◌≤◌, min, true, false, List, [], ◌∷◌, length, get_or, take, drop, set, Some, None, Option, unwrap_or, sym, refl, ap, ◌∙◌, subst, add-zero, arith, rules}
+use Rattle.std.proofs.Common.{◌≡◌, ℕ, zero, suc, not, nat_lt, ◌+◌, ◌^◌, ◌<◌, ◌≤◌, min, true, false, List, [], ◌∷◌, ◌++◌, length, get_or, take, drop, set, Some, None, Option, unwrap_or, sym, refl, ap, ◌∙◌, subst, add-zero, arith, rules}
 use Rattle.std.proofs.lemmas.List.{get_or-take, get_or-drop, length-take, length-set, same_lists, places}
-use Rattle.std.proofs.lemmas.Bool.{cond_both, both_ways, cond-true, le-leb}
+use Rattle.std.proofs.lemmas.Bool.{cond_both, both_ways, cond-true, cond-false, le-leb}
 use Rattle.std.specs.Option.{option_map}
-use Rattle.ladder.specs.Ladders.{Found, Holds, held, fronted, entered}
+use Rattle.ladder.specs.Ladders.{Found, Holds, held, past, fronted, entered}
+use Rattle.ladder.specs.Laws.{Sorted, placed}
 use Rattle.ladder.proofs.Edits.{replaces}
+use Rattle.ladder.proofs.Numbers.{rising_irreflexive, rising_transitive, rising_total}
+use Rattle.ladder.proofs.Orders.{place_is, entered_sorted}
+use Rattle.ladder.proofs.Places.{past_held}
 use Rattle.tally.specs.declared.row.Row.{Row}
-use Rattle.tally.specs.Rows.{row_key, row_before}
+use Rattle.tally.specs.declared.tally.Tally.{Tally}
+use Rattle.tally.specs.Rows.{row_key, row_before, blank}
 use Rattle.tally.specs.Tallies.{Counts, executed_of, capped64, summed, become, added}
-
--- what is read past the last row
-abbrev pub blank : Row
-blank = record { index = 0; executed = 0 }
 
 fronted_held : (i : ℕ) (ys : List Row) → held row_key row_before i ys ≡ true → fronted row_key row_before i ys ≡ Some (get_or ys 0 blank)
 fronted_held i [] e = absurd (both_ways false refl e)
@@ -57,6 +58,15 @@ writes i q x rs used at e f =
     let h = subst P (e ∙ row_found i rs used at q f) (replaces rs used n (omega arith) (first_rows rs used) row_key row_before r at f) in
     sym (first_rows (set rs at r) used) ∙ ap (λ m. take (min used m) (set rs at r)) (length-set rs at r) ∙ h.is
 
+-- rows stay in order where one is entered
+pub row_sorted : (r : Row) (rs : List Row) → Sorted row_key row_before rs → Sorted row_key row_before (entered row_key row_before r rs)
+row_sorted = entered_sorted row_key row_before rising_transitive rising_total
+
+-- and where one that is found is added to
+pub writes_sorted : (i q x : ℕ) (rs : List Row) (used at : ℕ) → x ≡ capped64 ((get_or rs at blank).executed + q) → Found row_key row_before i (take used rs) true at
+    → Sorted row_key row_before (take used rs) → Sorted row_key row_before (take used (set rs at (record { index = i; executed = x })))
+writes_sorted i q x rs used at e f s = subst (Sorted row_key row_before) (sym (writes i q x rs used at e f)) (row_sorted _ (take used rs) s)
+
 -- a row that is found is added to, and no row is missed
 pub found_added : (i q x : ℕ) (c : Counts) (rs : List Row) (used at : ℕ) → c.rows ≡ take used rs → c.room ≡ length rs → x ≡ capped64 ((get_or rs at blank).executed + q) → Found row_key row_before i (take used rs) true at
     → record { room = length (set rs at (record { index = i; executed = x })); rows = take used (set rs at (record { index = i; executed = x })); missed = c.missed; losses = c.losses } ≡ added i q c
@@ -74,3 +84,38 @@ pub none_added : (i q : ℕ) (c : Counts) (rs : List Row) (used at : ℕ) → c.
 none_added i q c rs used at a l f =
     ap (λ x. become (entered row_key row_before (record { index = i; executed = x }) c.rows) c)
     (row_none i rs used at q l f ∙ ap (λ ys. capped64 (unwrap_or (executed_of i ys) 0 + q)) (sym a))
+
+-- in order, each row comes before all later ones
+later : (x : Row) (xs : List Row) (j : ℕ) → Sorted row_key row_before (x ∷ xs) → j < length xs → row_before (row_key x) (row_key (get_or xs j blank)) ≡ true
+later x [] j s l = absurd (omega arith)
+later x (y ∷ ys) zero s l = s.0
+later x (y ∷ ys) (suc j) s l = rising_transitive x.index y.index _ s.0 (later y ys j s.1 (omega arith))
+
+-- so before a row that has the index there are as many as its place says
+rank_at : (i : ℕ) (rs : List Row) (at : ℕ) → Sorted row_key row_before rs → at < length rs → row_key (get_or rs at blank) ≡ i → at ≡ placed row_key row_before i rs
+rank_at i [] at s l e = absurd (omega arith)
+rank_at i (x ∷ xs) zero s l e = sym (cond-false (row_before (row_key x) i) _ 0 (ap (λ k. nat_lt k i) e ∙ rising_irreflexive i))
+rank_at i (x ∷ xs) (suc at) s l e =
+    ap suc (rank_at i xs at s.1 (omega arith) e)
+    ∙ sym (cond-true (row_before (row_key x) i) _ 0 (ap (nat_lt x.index) (sym e) ∙ later x xs at s (omega arith)))
+
+held_at : (i : ℕ) (rs : List Row) (at : ℕ) → at < length rs → row_key (get_or rs at blank) ≡ i → held row_key row_before i (drop at rs) ≡ true
+held_at i [] at l e = absurd (omega arith)
+held_at i (x ∷ xs) zero l e = ap not (ap (nat_lt i) e ∙ rising_irreflexive i)
+held_at i (x ∷ xs) (suc at) l e = held_at i xs at (omega arith) e
+
+-- in order, the search finds a row that has the index
+found_at : (i : ℕ) (rs : List Row) (at : ℕ) → Sorted row_key row_before rs → at < length rs → row_key (get_or rs at blank) ≡ i → Found row_key row_before i rs true at
+found_at i rs at s l e =
+    let p = rank_at i rs at s l e ∙ sym (place_is row_key row_before rising_transitive rising_total i rs s) in
+    let h = held_at i rs at l e in
+    record {
+      within = omega arith;
+      is = p;
+      held = h;
+      removes = ap (λ n. take n rs ++ past row_key row_before i (drop n rs)) (sym p) ∙ ap (λ t. take at rs ++ t) (past_held row_key row_before i (drop at rs) h);
+    }
+
+-- a row of a tally that has the index, at any place
+pub guessed : (t : Tally) (i at : ℕ) → at < t.used → (get_or t.rows.now at blank).index ≡ i → Found row_key row_before i (take t.used t.rows.now) true at
+guessed t i at l e = found_at i (take t.used t.rows.now) at t.ordered (omega (arith, length-take t.used t.rows.now, t.few)) (ap row_key (get_or-take t.used t.rows.now at blank l) ∙ e)

@@ -1,9 +1,8 @@
 //! The tally: executed volume by index.
-ghost use Rattle.std.specs.Prelude.{◌≡◌, ◌/◌, length};
-ghost use Rattle.tally.specs.Tallies.{Counts, meant, fresh, become, added, point_added, points_added, step as stepped};
+ghost use Rattle.std.specs.Prelude.{◌≡◌, ◌/◌, ◌≤◌, length, take};
 ghost use Rattle.ladder.specs.Ladders.{entered};
-ghost use Rattle.tally.specs.Rows.{row_key, row_before};
-ghost use Rattle.tally.specs.Laws.{InOrder, KeepsOrder, AddsToOne, CapsWorked};
+ghost use Rattle.ladder.specs.Laws.{Sorted};
+ghost use Rattle.tally.specs.Rows.{row_key, row_before, Sorted-prop};
 
 use crate::row::{ByIndex, Row};
 use ladder::enter;
@@ -27,9 +26,14 @@ pub struct Tally<'a> {
     pub(crate) rows: &'a mut [Row],
     pub(crate) used: usize,
     pub(crate) counters: Counters,
+    ghost few: { used ≤ length rows.now },
+    ghost ordered: { Sorted row_key row_before (take used rows.now) } by { Sorted-prop (take used rows.now) },
 }
 
 impl<'a> Tally<'a> {
+    ghost use Rattle.tally.specs.Tallies.{meant, fresh};
+    ghost use Rattle.tally.specs.Laws.{InOrder};
+
     /// A tally of the lent rows, all free.
     pub fn new(rows: &'a mut [Row]) -> Tally<'a>
         ensures free { meant result ≡ fresh (length rows.old) }
@@ -44,6 +48,8 @@ impl<'a> Tally<'a> {
 }
 
 impl Tally<'_> {
+    ghost use Rattle.tally.specs.Tallies.{meant, become, added, point_added, points_added};
+
     // Adds a row, or counts a miss where none is free.
     fn add_row(&mut self, row: Row)
         ensures { meant self.new ≡ become (entered row_key row_before row (meant self.old).rows) (meant self.old) }
@@ -92,6 +98,8 @@ impl Tally<'_> {
 }
 
 impl<'a> Sink for Tally<'a> {
+    ghost use Rattle.tally.specs.Tallies.{Counts, meant, step as stepped};
+
     ghost Meaning = { Counts };
 
     ghost means = { meant };
@@ -111,13 +119,4 @@ impl<'a> Sink for Tally<'a> {
     fn refresh(&mut self, _number: u32, _message: Message<'_>) {}
 
     fn restart(&mut self, _number: u32) {}
-}
-
-/// What holds of every step: a tally stays in order, an addition changes the volume of its index alone, and sums stop at their tops. A theorem.
-pub fn ordered()
-    ensures order { KeepsOrder }
-    ensures adds { AddsToOne }
-    ensures worked { CapsWorked }
-{
-    ladder::ordered::<ByIndex>();
 }

@@ -1,9 +1,17 @@
 use Rattle.std.proofs.Common.{◌∙◌, refl, ap, arith, rules}
+use Rattle.std.proofs.lemmas.List.{length-set}
 use Rattle.ladder.specs.Ladders.{entered}
 use Rattle.tally.specs.Rows.{row_key, row_before}
 use Rattle.tally.specs.Tallies.{meant, become}
-use Rattle.tally.proofs.Found.{found_added, none_added}
+use Rattle.tally.proofs.Found.{found_added, none_added, writes_sorted}
 use Rattle.tally.proofs.tally.Tally.add.Goals as goal
+
+pub invariant_of-self : goal.invariant_of-self
+invariant_of-self c =
+    let t = c.args.self.now in record {
+      few = omega (arith, length-set t.rows.now c.in-Ok.at (record { index = c.args.index; executed = c.saturating_add-executed.result }), t.few);
+      ordered = writes_sorted c.args.index c.args.quantity c.saturating_add-executed.result t.rows.now t.used c.in-Ok.at (search rules) c.in-Ok.ensures t.ordered;
+    }
 
 pub returns-in-Ok : goal.returns-in-Ok
 returns-in-Ok c =

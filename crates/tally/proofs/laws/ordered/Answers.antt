@@ -1,5 +1,5 @@
 use Rattle.tally.proofs.Steps.{keeps_order, adds_to_one}
-use Rattle.tally.proofs.tally.ordered.Goals as goal
+use Rattle.tally.proofs.laws.ordered.Goals as goal
 
 pub returns-clause-order : goal.returns-clause-order
 returns-clause-order c = keeps_order c.ordered.ensures
