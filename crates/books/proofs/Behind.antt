@@ -14,6 +14,7 @@ use Rattle.books.specs.declared.level.Point.{Point}
 use Rattle.books.specs.Levels.{price_of, before, changed}
 use Rattle.books.specs.Entering.{Known, levels, with_levels, put, filled}
 use Rattle.books.specs.Laying.{after, behind, pending}
+use Rattle.books.proofs.Sides.{levels_with, with_with, whole_with}
 
 side_transitive : (s : Side) (a b c : ℕ) → before s a b ≡ true → before s b c ≡ true → before s a c ≡ true
 side_transitive Buy a b c p q = rising_transitive c b a q p
@@ -52,23 +53,6 @@ module _ (s : Side) (l : Level) (xs : List Level) (o : Sorted price_of (before s
       let t = tested (eqb l.volume 0) _ b in
       subst (Sorted price_of (before s)) (entered_is price_of (before s) (side_transitive s) (side_total s) l xs o ∙ inserted_behind s l xs o t.1)
       (entered_sorted price_of (before s) (side_transitive s) (side_total s) l xs o)
-
-levels_with : (s : Side) (xs : List Level) (k : Known) → levels s (with_levels s xs k) ≡ xs
-levels_with Buy xs k = refl
-levels_with Sell xs k = refl
-
-with_with : (s : Side) (xs ys : List Level) (k : Known) → with_levels s ys (with_levels s xs k) ≡ with_levels s ys k
-with_with Buy xs ys k = refl
-with_with Sell xs ys k = refl
-
-whole_with : (s : Side) (xs : List Level) (k : Known) → (with_levels s xs k).whole ≡ k.whole
-whole_with Buy xs k = refl
-whole_with Sell xs k = refl
-
--- a side with the levels that it has
-pub with_same : (s : Side) (k : Known) → with_levels s (levels s k) k ≡ k
-with_same Buy k = refl
-with_same Sell k = refl
 
 -- a point of a side, behind all its levels, where there is room for one more
 module _ (s : Side) (d used : ℕ) (rows : List Level) (l : Level) (at : used < length rows) (e : length rows ≡ d) (o : Sorted price_of (before s) (take used rows)) (b : behind s l (take used rows) ≡ true) where

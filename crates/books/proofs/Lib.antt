@@ -1,3 +1,4 @@
+pub mod Sides
 pub mod Parts
 pub mod Rows
 pub mod Filling

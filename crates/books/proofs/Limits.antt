@@ -3,15 +3,14 @@ use Rattle.std.proofs.Common.{◌≡◌, ℕ, ◌<◌, ◌≤◌, false, List, l
 use Rattle.std.proofs.lemmas.Bool.{le-leb, lt-leb}
 use Rattle.std.proofs.lemmas.List.{length-take}
 use Rattle.wire.specs.declared.point.Side.{Side}
-use Rattle.wire.specs.declared.point.Side.TheVariants.{Buy, Sell}
 use Rattle.ladder.specs.Ladders.{Holds}
 use Rattle.books.specs.declared.level.Level.{Level}
 use Rattle.books.specs.Levels.{price_of, before, changed}
 use Rattle.books.specs.Entering.{Known, emptied, levels, with_levels, put, limited}
+use Rattle.books.proofs.Sides.{levels_with}
 
 put_levels : (s : Side) (l : Level) (k : Known) → levels s (put s l k) ≡ changed price_of (before s) l (levels s k)
-put_levels Buy l k = refl
-put_levels Sell l k = refl
+put_levels s l k = levels_with s (changed price_of (before s) l (levels s k)) k
 
 module _ (d : ℕ) (s : Side) (l : Level) (k : Known) where
   fits : length (changed price_of (before s) l (levels s k)) ≤ d → limited d s l k ≡ put s l k

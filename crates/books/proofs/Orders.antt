@@ -15,6 +15,7 @@ use Rattle.books.specs.Levels.{price_of, before, changed}
 use Rattle.books.specs.Entering.{Known, unknown, emptied, touched_at, levels, put, put_all, limited, filled, full_points, delta_points}
 use Rattle.books.specs.Keepers.{Kept, keeper_step, at_book, book_of}
 use Rattle.books.specs.Laws.{Laddered, InOrder, PointsFit, Keeping}
+use Rattle.books.proofs.Sides.{whole_with}
 
 -- both sides of a book are in order
 abbrev Both : ℕ → Known → Type 0
@@ -61,8 +62,7 @@ module _ (laws : (s : Side) → ladder.Laws price_of (before s)) (d : ℕ) where
 
 -- points that fit
 put_whole : (s : Side) (l : Level) (b : Known) → (put s l b).whole ≡ b.whole
-put_whole Buy l b = refl
-put_whole Sell l b = refl
+put_whole s l b = whole_with s (changed price_of (before s) l (levels s b)) b
 
 all_whole : (ps : List Point) (b : Known) → (put_all ps b).whole ≡ b.whole
 all_whole [] b = refl
