@@ -47,20 +47,30 @@ pub fn finish(mut packet: Vec<u8>) -> Vec<u8> {
     packet
 }
 
-pub fn full_header(number: u32, flag: u8, index: usize, scale: u8, points: usize) -> Vec<u8> {
-    let mut packet = header(230, number, flag, points);
+/// An update's bytes from its header to the given length: its index, and blanks.
+fn update_header(
+    kind: u8,
+    number: u32,
+    flag: u8,
+    index: usize,
+    points: usize,
+    length: usize,
+) -> Vec<u8> {
+    let mut packet = header(kind, number, flag, points);
     packet.extend([0, 0]);
     packet.extend((index as u16).to_be_bytes());
-    packet.resize(42, 32);
+    packet.resize(length, 32);
+    packet
+}
+
+pub fn full_header(number: u32, flag: u8, index: usize, scale: u8, points: usize) -> Vec<u8> {
+    let mut packet = update_header(230, number, flag, index, points, 42);
     packet.extend([scale, 79, 0, 0]);
     packet
 }
 
 pub fn delta_header(number: u32, flag: u8, index: usize, scale: u8, points: usize) -> Vec<u8> {
-    let mut packet = header(231, number, flag, points);
-    packet.extend([0, 0]);
-    packet.extend((index as u16).to_be_bytes());
-    packet.resize(33, 32);
+    let mut packet = update_header(231, number, flag, index, points, 33);
     packet.push(scale);
     packet
 }
