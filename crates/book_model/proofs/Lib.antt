@@ -1,0 +1,3 @@
+pub mod Sides
+pub mod Prices
+pub mod Orders
