@@ -38,11 +38,11 @@ known_get (c ∷ bs) (z ∷ xs) [] i v d h = absurd (omega arith)
 known_get (c ∷ bs) (z ∷ xs) (y ∷ ys) zero v d h = refl
 known_get (c ∷ bs) (z ∷ xs) (y ∷ ys) (suc i) v d h = known_get bs xs ys i v d (omega arith)
 
-known_blank : (b : BookRow) (v : Known) → ((x y : List Level) → known b.book x y ≡ v) → (bs : List BookRow) (xs ys : List (List Level)) → each_known (replicate (length bs) b) xs ys ≡ replicate (length (each_known bs xs ys)) v
-known_blank b v e [] xs ys = refl
-known_blank b v e (c ∷ bs) [] ys = refl
-known_blank b v e (c ∷ bs) (x ∷ xs) [] = refl
-known_blank b v e (c ∷ bs) (x ∷ xs) (y ∷ ys) = rw (e x y, known_blank b v e bs xs ys) refl
+known_blank : (bs : List BookRow) (xs ys : List (List Level)) → each_known (replicate (length bs) blank) xs ys ≡ replicate (length (each_known bs xs ys)) unknown
+known_blank [] xs ys = refl
+known_blank (c ∷ bs) [] ys = refl
+known_blank (c ∷ bs) (x ∷ xs) [] = refl
+known_blank (c ∷ bs) (x ∷ xs) (y ∷ ys) = ap (λ t. unknown ∷ t) (known_blank bs xs ys)
 
 -- the part i of a table is of d rows
 pub part_long : {X : Type 0} (d i : ℕ) (xs : List X) → i * d + d ≤ length xs → length (take d (drop (i * d) xs)) ≡ d
@@ -120,8 +120,9 @@ past (suc i) vs h = record { same = λ f. set_past vs i _ (omega arith); unseen 
 shown_is : {X : Type 0} (m w from c d at : ℕ) (xs : List X) → from ≡ at → w ≡ d → m ≡ min c d → take m (take w (drop from xs)) ≡ take c (take d (drop at xs))
 shown_is m w from c d at xs a e f = same_lists _ _ (search (rules, places)) (λ k z l. grind (arith, places))
 
-pub blanked : (d : ℕ) (b : BookRow) (v : Known) → ((x y : List Level) → known b.book x y ≡ v) → (bs cs : List BookRow) (xs ys : List Level) → cs ≡ replicate (length bs) b → tabled d cs xs ys ≡ replicate (length (tabled d bs xs ys)) v
-blanked d b v e bs cs xs ys r = ap (λ cs. tabled d cs xs ys) r ∙ known_blank b v e bs (cut d xs) (cut d ys)
+-- tables of which nothing is known
+pub blanked : (d : ℕ) (bs cs : List BookRow) (xs ys : List Level) → cs ≡ replicate (length bs) blank → tabled d cs xs ys ≡ replicate (length (tabled d bs xs ys)) unknown
+blanked d bs cs xs ys r = ap (λ cs. tabled d cs xs ys) r ∙ known_blank bs (cut d xs) (cut d ys)
 
 pub spotted : (t : Tables) (n i : ℕ) → n ≡ suc i → i < length (tables_known t) → Spot t n i
 spotted t n i e h =

@@ -1,5 +1,5 @@
 -- The tables once a side of the book at i is written, and once its row is.
-use Rattle.std.proofs.Common.{◌≡◌, ℕ, suc, ◌*◌, ◌<◌, false, List, length, get_or, take, drop, set, replicate, sym, refl, ap, ◌∙◌, subst}
+use Rattle.std.proofs.Common.{◌≡◌, ℕ, suc, ◌*◌, ◌<◌, true, false, List, length, get_or, take, drop, set, replicate, sym, refl, ap, ◌∙◌, subst}
 use borrow.Rule.Slice.PartMut.{put_mid}
 use Rattle.wire.specs.declared.point.Side.{Side}
 use Rattle.wire.specs.declared.point.Side.TheVariants.{Buy, Sell}
@@ -16,14 +16,18 @@ use Rattle.book_model.proofs.Books.{all_none, one_of, all_changed}
 use Rattle.books.specs.declared.book.Book.{Book}
 use Rattle.books.specs.declared.book.BookRow.{BookRow}
 use Rattle.books.specs.declared.tables.Tables.{Tables}
+use Rattle.books.specs.Sizes.{tables_fit}
 use Rattle.books.specs.Tabled.{known, blank, tabled, AllOrdered}
 use Rattle.books.specs.Keepers.{tables_known}
 use Rattle.books.proofs.Limits.{entered, lost}
-use Rattle.books.proofs.Rows.{part_long, end_buys, end_sells, blanked, there, book_is, buys_put, sells_put}
+use Rattle.books.proofs.Rows.{part_long, end_buys, end_sells, blanked, room, there, book_is, buys_put, sells_put}
 
 -- tables of which nothing is known
 pub blank_ordered : (d : ℕ) (bs cs : List BookRow) (xs ys : List Level) → cs ≡ replicate (length bs) blank → AllOrdered (tabled d cs xs ys)
-blank_ordered d bs cs xs ys e = subst AllOrdered (sym (blanked d blank unknown (λ x y. refl) bs cs xs ys e)) (all_none Ordered (none_sorted false 0) _)
+blank_ordered d bs cs xs ys e = subst AllOrdered (sym (blanked d bs cs xs ys e)) (all_none Ordered (none_sorted false 0) _)
+
+pub blank_known : (d : ℕ) (bs cs : List BookRow) (xs ys : List Level) → tables_fit bs xs ys d ≡ true → cs ≡ replicate (length bs) blank → tabled d cs xs ys ≡ replicate (length bs) unknown
+blank_known d bs cs xs ys fits e = blanked d bs cs xs ys e ∙ ap (λ n. replicate n unknown) (room bs xs ys d fits)
 
 -- tables in which one book of others is changed
 pub limited_ordered : (t : Tables) (i : ℕ) (s : Side) (l : Level) (bs : List Known) → bs ≡ changed_at (suc i) (limited t.depth s l) (tables_known t) → AllOrdered bs

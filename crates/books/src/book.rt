@@ -51,6 +51,13 @@ impl Book {
         }
     }
 
+    // The book once a level more than its side has room for is told.
+    pub(crate) fn overflown(self) -> Book
+        ensures { result ≡ record { whole = false; touched = self.touched; buys = 0; sells = 0 } }
+    {
+        Book::empty(false, self.touched)
+    }
+
     // The book as a message begins it, or `None` where the message is not taken.
     pub(crate) fn begun(self, start: Start) -> Option<Book>
         ensures { (xs ys : List Level) → MatchOption result (taken start (known self xs ys) ≡ false) (λ b. (taken start (known self xs ys) ≡ true) × (known b xs ys ≡ begun start (known self xs ys))) }

@@ -11,6 +11,7 @@ mod tables;
 mod telling;
 
 pub use book::{Book, BookRow};
+pub use book_model::Level;
 pub use fault::TableFault;
 pub use keeper::{BookKeeper, keeper_moves};
 pub use tables::{RefusedTables, Tables};

@@ -1,5 +1,5 @@
 //! The three lent tables of a keeper: books, and the levels of the two sides of each.
-ghost use Rattle.std.specs.Prelude.{◌≡◌, ◌+◌, ◌*◌, ◌<◌, ◌≤◌, true, false, length, MatchOption, MatchResult, slice_index_or};
+ghost use Rattle.std.specs.Prelude.{◌≡◌, ◌+◌, ◌*◌, ◌<◌, ◌≤◌, true, false, length, replicate, MatchOption, MatchResult, slice_index_or};
 ghost use Rattle.books.specs.Sizes.{tables_fit};
 ghost use Rattle.books.specs.Tabled.{tabled, AllOrdered, AllOrdered-prop};
 
@@ -41,6 +41,13 @@ fn fit(books: &[BookRow], buys: &[Level], sells: &[Level], depth: usize) -> bool
         && sells.len() == books.len() * depth
 }
 
+// Has all rows of books be unknown.
+pub(crate) fn clear(rows: &mut [BookRow])
+    ensures { rows.new ≡ replicate (length rows.old) BookRow.UNKNOWN }
+{
+    rows.fill(BookRow::UNKNOWN);
+}
+
 impl<'a, 'b, 'c> Tables<'a, 'b, 'c> {
     ghost use Rattle.books.specs.Keepers.{Checked, GivenBack};
     ghost use Rattle.books.specs.Laws.{SizesWorked};
@@ -48,6 +55,7 @@ impl<'a, 'b, 'c> Tables<'a, 'b, 'c> {
     /// The tables, where their sizes are a keeper's. What the books' rows held does not matter: nothing is known of any book.
     /// Refused tables are given back as they were lent.
     // Kept as a function of four values: a `TryFrom` takes one, and a struct of the four would be made only to be passed here.
+    #[tactic(auto, using(crate::proofs::Told::blank_ordered, crate::proofs::Told::blank_known))]
     pub fn check(
         books: &'a mut [BookRow],
         buys: &'b mut [Level],
@@ -65,7 +73,7 @@ impl<'a, 'b, 'c> Tables<'a, 'b, 'c> {
                 sells,
             });
         }
-        books.fill(BookRow::UNKNOWN);
+        clear(books);
         Ok(Tables {
             books,
             buys,

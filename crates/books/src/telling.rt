@@ -5,10 +5,10 @@ ghost use Rattle.book_model.specs.Keepers.{changed_at};
 ghost use Rattle.books.specs.Keepers.{tables_known, Becomes};
 ghost use Rattle.books.specs.Laying.{pending, Leaves};
 
-use crate::book::{Book, BookRow};
+use crate::book::Book;
 use crate::laying::lay;
 use crate::level::{change, named};
-use crate::tables::Tables;
+use crate::tables::{Tables, clear};
 use book_model::{Buys, Point, Sells, Start};
 use wire::{Points, Side};
 
@@ -28,11 +28,11 @@ impl Tables<'_, '_, '_> {
         match point.side {
             Side::Buy => match change::<Buys>(&mut self.buys[rows], buys, point.level) {
                 Some(used) => books[i].book.buys = used,
-                None => books[i].book = Book::empty(false, books[i].book.touched),
+                None => books[i].book = books[i].book.overflown(),
             },
             Side::Sell => match change::<Sells>(&mut self.sells[rows], sells, point.level) {
                 Some(used) => books[i].book.sells = used,
-                None => books[i].book = Book::empty(false, books[i].book.touched),
+                None => books[i].book = books[i].book.overflown(),
             },
         }
     }
@@ -132,9 +132,10 @@ impl Tables<'_, '_, '_> {
     }
 
     // Nothing is known of any book.
+    #[tactic(auto, using(crate::proofs::Rows::blanked, crate::proofs::Told::blank_ordered))]
     pub(crate) fn forget(&mut self)
         ensures { Becomes self.old self.new (replicate (length (tables_known self.old)) unknown) }
     {
-        self.books.fill(BookRow::UNKNOWN);
+        clear(self.books);
     }
 }

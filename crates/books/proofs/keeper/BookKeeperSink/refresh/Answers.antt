@@ -1,4 +1,4 @@
-use Rattle.std.proofs.Common.{sym, ap, ◌∙◌}
+use Rattle.std.proofs.Common.{sym, ap, ◌∙◌, arith}
 use Rattle.std.proofs.lemmas.Bool.{cond-true, le-leb}
 use Rattle.std.specs.Prelude.{nat_le}
 use Rattle.wire.specs.Reading.{model}
@@ -16,5 +16,5 @@ returns-then-self-number c =
     let m = c.in-Full in
     c.hear.ensures
     ∙ ap (λ ps. heard m.index (Refresh n) (points_of (λ p. p) m.scale ps) k) c.new.ensures.all
-    ∙ sym (cond-true (nat_le k.mark n) _ _ (le-leb k.mark n c.if-self-number.true))
+    ∙ sym (cond-true (nat_le k.mark n) _ _ (le-leb k.mark n (omega arith)))
     ∙ sym (ap (λ m. keeper_step (refresh_of n (model m)) k) m.is)
