@@ -10,7 +10,7 @@ use Rattle.wire.specs.declared.reader.Kind.TheVariants as kind
 use Rattle.wire.specs.declared.message.Packet.{Packet}
 use Rattle.wire.specs.Bytes.{be16, be32}
 use Rattle.wire.specs.Reading.{Msg, Pkt, Hdr, told, and_then, kind_from, allowed, header_in, body_in, reading, reset_in, unavailable_in, mapping_in, full_in, delta_in, unless, wrong_in_full, wrong_in_delta}
-use Rattle.wire.specs.Laws.{Long, Framed, Ours, code, Untyped, flag_right, Headed, fits, wrong_at, RightBelow, message_of, Faulty, Cause, Judged}
+use Rattle.wire.specs.Laws.{Long, Framed, Ours, code, Untyped, Headed, fits, wrong_at, RightBelow, message_of, Faulty, Cause, Judged}
 use Rattle.wire.proofs.Firsts.{Firsts, first_is_first}
 
 then_both : {A B E : Type 0} (P : Result A E → Type 0) (Q : Result B E → Type 0) (f : A → Result B E) (r : Result A E) →
@@ -39,13 +39,6 @@ kind_judged n =
     untyped n a b c d e kind.Full h = d (sym h)
     untyped n a b c d e kind.Delta h = e (sym h)
 
-allowed_right : (k : Kind) (f : ℕ) → allowed k f ≡ flag_right k f
-allowed_right kind.Reset f = refl
-allowed_right kind.Unavailable f = refl
-allowed_right kind.Mapping f = refl
-allowed_right kind.Full f = grind (arith, nat_tests)
-allowed_right kind.Delta f = refl
-
 -- what a header comes to
 HeaderJudged : List ℕ → Result Hdr ReadFault → Type 0
 HeaderJudged p (Ok h) = Headed h.kind p × (h.number ≡ be32 p 4) × (h.flag ≡ get_or p 13 0) × (h.link ≡ get_or p 15 0) × (h.body ≡ drop 16 p)
@@ -65,8 +58,8 @@ header_judged p =
     let o : Ours p = (f, eqb-true _ _ (not-false _ c)) in
     then_both (KindJudged (be16 p 2)) (HeaderJudged p) _ (kind_from (be16 p 2)) (kind_judged (be16 p 2))
     (λ k t. cond_both (not (allowed k (get_or p 13 0))) (Err Flag) _ (HeaderJudged p)
-    (λ d. (o, (k, t, sym (allowed_right k (get_or p 13 0)) ∙ not-true _ d)))
-    (λ d. (record { ours = o; typed = t; flagged = sym (allowed_right k (get_or p 13 0)) ∙ not-false _ d }, refl, refl, refl, refl)))
+    (λ d. (o, (k, t, not-true _ d)))
+    (λ d. (record { ours = o; typed = t; flagged = not-false _ d }, refl, refl, refl, refl)))
     (λ e t. let C : ReadFault → Type 0 = λ f. Cause f p in subst C (sym t.0) (o, t.1)))))
 
 -- what a body comes to

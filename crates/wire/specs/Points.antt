@@ -1,6 +1,7 @@
 -- The points of a full update and of a delta. An offset counts from the first point.
 use Rattle.std.specs.Prelude.{◌≡◌, ℕ, ◌+◌, ◌*◌, ◌/◌, cond, List, map, length, drop, Some, None, Ok, Err, Option, Result, ◌==◌, nat_lt, slice_index}
 use Rattle.std.specs.List.{range_with_len}
+use Rattle.std.specs.Result.{result_unwrap_or}
 use Rattle.wire.specs.declared.point.Side.{Side}
 use Rattle.wire.specs.declared.point.Side.TheVariants.{Buy, Sell}
 use Rattle.wire.specs.declared.point.Reason.{Reason}
@@ -22,14 +23,6 @@ reason_letter Cancel = 67
 reason_letter Execution = 69
 reason_letter Multiple = 88
 
--- the side of a letter; a packet that is read has B or S
-abbrev pub side_of : ℕ → Side
-side_of b = cond (b == 66) Buy Sell
-
--- the reason of a letter; a packet that is read has O, C, E or X
-abbrev pub reason_of : ℕ → Reason
-reason_of b = cond (b == 79) Order (cond (b == 67) Cancel (cond (b == 69) Execution Multiple))
-
 -- the side or the reason that a letter names, where it names one
 abbrev pub side_in : ℕ → Result Side UnknownLetter
 side_in b = cond (b == 66) (Ok Buy) (cond (b == 83) (Ok Sell) (Err (record { 0 = b })))
@@ -41,6 +34,13 @@ reason_in b =
     (cond (b == 69) (Ok Execution)
     (cond (b == 88) (Ok Multiple)
     (Err (record { 0 = b })))))
+
+-- the side and the reason of a letter; a packet that is read has a letter of each, and any other byte counts as the last of them
+abbrev pub side_of : ℕ → Side
+side_of b = result_unwrap_or (side_in b) Sell
+
+abbrev pub reason_of : ℕ → Reason
+reason_of b = result_unwrap_or (reason_in b) Multiple
 
 -- the point of a full update at an offset
 abbrev pub full_at : List ℕ → ℕ → PricePoint

@@ -1,5 +1,5 @@
 -- What a packet says, or why it is refused. Offsets count from the packet's start.
-use Rattle.std.specs.Prelude.{◌≡◌, ◌≤◌, ℕ, ◌+◌, ◌-◌, ◌%◌, Bool, cond, not, ◌&&◌, ◌||◌, List, length, drop, Some, None, Ok, Err, Option, Result, ◌==◌, nat_lt, slice_index}
+use Rattle.std.specs.Prelude.{◌≡◌, ◌≤◌, ℕ, ◌+◌, ◌-◌, ◌%◌, Bool, cond, not, ◌&&◌, ◌||◌, List, length, drop, is_ok, Some, None, Ok, Err, Option, Result, ◌==◌, nat_lt, slice_index}
 use Rattle.std.specs.Result.{result_map_both}
 use Rattle.wire.specs.declared.fault.ReadFault.{ReadFault}
 use Rattle.wire.specs.declared.fault.ReadFault.TheVariants.{Length, Size, Product, Unknown, Flag, Body}
@@ -13,6 +13,7 @@ use Rattle.wire.specs.declared.message.Packet.{Packet}
 use Rattle.wire.specs.declared.message.Class.{Class}
 use Rattle.wire.specs.declared.message.Class.TheVariants as class
 use Rattle.wire.specs.Bytes.{be16, be32, first}
+use Rattle.wire.specs.Points.{side_in, reason_in}
 
 -- a message, its points as bytes
 pub data Msg : Type 0 where
@@ -74,7 +75,7 @@ kind_from n =
     (cond (n == 231) (Ok kind.Delta)
     (Err Unknown)))))
 
--- the flags that a type may have
+-- the flags that a type may have: 1 and 2, and for a full update 5 and 6 too
 abbrev pub allowed : Kind → ℕ → Bool
 allowed kind.Reset f = f == 1 || f == 2
 allowed kind.Unavailable f = f == 1 || f == 2
@@ -84,11 +85,11 @@ allowed kind.Full f = f == 1 || f == 2 || f == 5 || f == 6
 
 -- B or S
 abbrev pub side : ℕ → Bool
-side b = b == 66 || b == 83
+side b = is_ok (side_in b)
 
 -- O, C, E or X
 abbrev pub reason : ℕ → Bool
-reason b = b == 79 || b == 67 || b == 69 || b == 88
+reason b = is_ok (reason_in b)
 
 -- the byte at an offset of a point of a full update is a side, and is wrong
 abbrev pub wrong_in_price_point : ℕ → ℕ → Bool
