@@ -2,7 +2,7 @@
 use Rattle.std.specs.Prelude.{◌≡◌, ℕ, zero, suc, ◌+◌, ◌-◌, ◌*◌, ◌/◌, ◌<◌, ◌≤◌, min, Bool, true, false, cond, List, [], ◌∷◌, length, take, drop, replicate, Some, None, Option, nat_le, slice_index_or, slice_set}
 use Rattle.std.specs.List.{slice_get}
 use Rattle.wire.specs.declared.point.Side.{Side}
-use Rattle.wire.specs.Texts.{refused_text}
+use Rattle.common.specs.Texts.{refused_text}
 use Rattle.wire.specs.Reading.{reset, unavailable, mapping, full, delta}
 use Rattle.sink.specs.Events.{Event, data_of, loss_of, refresh_of, restart_of}
 use Rattle.books.specs.declared.level.Level.{Level}

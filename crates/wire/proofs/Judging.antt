@@ -1,8 +1,9 @@
 -- Every reading is judged right.
-use Rattle.std.proofs.Common.{◌≡◌, ℕ, ◌+◌, ◌-◌, ◌%◌, ◌<◌, ◌≤◌, Bool, true, false, not, ◌||◌, eqb, ltb, List, length, get_or, drop, Some, None, Ok, Err, Option, Result, sym, refl, ◌∙◌, subst, inl, inr, arith, length-drop}
-use Rattle.std.proofs.lemmas.Bool.{cond_both, eqb-true, eqb-false, not-true, not-false, both_ways, cases_lt, or_cases, ltb-true}
+use Rattle.std.proofs.Common.{◌≡◌, ℕ, ◌+◌, ◌-◌, ◌%◌, ◌<◌, ◌≤◌, Bool, true, false, not, ◌||◌, eqb, leb, ltb, List, length, get_or, drop, Some, None, Ok, Err, Option, Result, sym, refl, ◌∙◌, subst, inl, inr, arith, length-drop}
+use Rattle.std.proofs.lemmas.Bool.{cond_both, eqb-true, eqb-false, not-true, not-false, both_ways, cases_lt, and_from, le-leb}
 use Rattle.std.proofs.lemmas.List.{get_or-drop, drop-drop}
 use Rattle.std.proofs.lemmas.Bool.Decides.{nat_tests}
+use Rattle.common.specs.Lengths.{right}
 use Rattle.wire.specs.declared.fault.ReadFault.{ReadFault}
 use Rattle.wire.specs.declared.fault.ReadFault.TheVariants.{Length, Size, Product, Unknown, Flag, Body}
 use Rattle.wire.specs.declared.reader.Kind.{Kind}
@@ -44,13 +45,13 @@ HeaderJudged : List ℕ → Result Hdr ReadFault → Type 0
 HeaderJudged p (Ok h) = Headed h.kind p × (h.number ≡ be32 p 4) × (h.flag ≡ get_or p 13 0) × (h.link ≡ get_or p 15 0) × (h.body ≡ drop 16 p)
 HeaderJudged p (Err f) = Cause f p
 
-short_or_long : {n : ℕ} → (ltb n 16 || ltb 1500 n) ≡ true → (16 ≤ n) × (n ≤ 1500) → ⊥
-short_or_long {n} t l = elim (or_cases (ltb n 16) (ltb 1500 n) t) [ inl h ↦ omega (arith, l.0, ltb-true n 16 h) | inr h ↦ omega (arith, l.1, ltb-true 1500 n h) ]
+long_right : {n : ℕ} → not (right n) ≡ true → (16 ≤ n) × (n ≤ 1500) → ⊥
+long_right {n} t l = both_ways (right n) (not-true _ t) (and_from (leb 16 n) (leb n 1500) (le-leb 16 n l.0) (le-leb n 1500 l.1))
 
 header_judged : (p : List ℕ) → HeaderJudged p (header_in p)
 unfolding HeaderJudged KindJudged
 header_judged p =
-    cond_both (ltb (length p) 16 || ltb 1500 (length p)) (Err Length) _ (HeaderJudged p) (λ t l. short_or_long t l) (λ a.
+    cond_both (not (right (length p))) (Err Length) _ (HeaderJudged p) (λ t l. long_right t l) (λ a.
     let l : Long p = (grind (arith, nat_tests), grind (arith, nat_tests)) in
     cond_both (not (eqb (be16 p 0 + 2) (length p))) (Err Size) _ (HeaderJudged p) (λ t. (l, eqb-false _ _ (not-true _ t))) (λ b.
     let f : Framed p = (l, eqb-true _ _ (not-false _ b)) in

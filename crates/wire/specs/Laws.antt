@@ -3,6 +3,7 @@
 use Rattle.std.specs.Prelude.{◌≡◌, ℕ, ◌+◌, ◌-◌, ◌%◌, ◌<◌, ◌≤◌, Bool, true, false, not, ◌&&◌, ◌||◌, List, length, drop, Ok, Err, Result, ◌==◌, ◌≢◌, nat_le, nat_lt, slice_index}
 use Rattle.wire.specs.declared.fault.ReadFault.{ReadFault}
 use Rattle.wire.specs.declared.fault.ReadFault.TheVariants.{Length, Size, Product, Unknown, Flag, Body}
+use Rattle.common.specs.declared.TheConstants.{SHORTEST, LONGEST}
 use Rattle.wire.specs.declared.reader.Kind.{Kind}
 use Rattle.wire.specs.declared.reader.Kind.TheVariants as kind
 use Rattle.wire.specs.Bytes.{be16, be32}
@@ -10,7 +11,7 @@ use Rattle.wire.specs.Reading.{Msg, Pkt, reset, unavailable, mapping, full, delt
 
 -- 16 to 1,500 bytes
 abbrev pub Long : List ℕ → Type 0
-Long p = (16 ≤ length p) × (length p ≤ 1500)
+Long p = (SHORTEST ≤ length p) × (length p ≤ LONGEST)
 
 -- whose size is its own
 abbrev pub Framed : List ℕ → Type 0

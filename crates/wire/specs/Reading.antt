@@ -3,6 +3,8 @@ use Rattle.std.specs.Prelude.{◌≡◌, ◌≤◌, ℕ, ◌+◌, ◌-◌, ◌%�
 use Rattle.std.specs.Result.{result_map_both}
 use Rattle.wire.specs.declared.fault.ReadFault.{ReadFault}
 use Rattle.wire.specs.declared.fault.ReadFault.TheVariants.{Length, Size, Product, Unknown, Flag, Body}
+use Rattle.common.specs.Lengths.{right}
+use Rattle.wire.specs.declared.reader.TheConstants.{HEADER}
 use Rattle.wire.specs.declared.reader.Kind.{Kind}
 use Rattle.wire.specs.declared.reader.Kind.TheVariants as kind
 use Rattle.wire.specs.declared.reader.Fields.{Fields}
@@ -116,7 +118,7 @@ unless start None r = r
 
 -- a packet's length, of its body
 abbrev pub whole : List ℕ → ℕ
-whole b = 16 + length b
+whole b = HEADER + length b
 
 -- the fields of a body, by their offset in the packet
 abbrev pub byte_at : List ℕ → ℕ → ℕ
@@ -195,7 +197,7 @@ pub record Fielded (p : List ℕ) (f : Fields) : Type 0 where
 -- the header of a packet, or the first of its refusals
 abbrev pub header_in : List ℕ → Result Hdr ReadFault
 header_in p =
-    cond (nat_lt (length p) 16 || nat_lt 1500 (length p)) (Err Length)
+    cond (not (right (length p))) (Err Length)
     (cond (not (be16 p 0 + 2 == length p)) (Err Size)
     (cond (not (slice_index p 12 == 115)) (Err Product)
     (and_then (kind_from (be16 p 2)) (λ k.
