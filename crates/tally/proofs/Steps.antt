@@ -5,7 +5,7 @@ use Rattle.std.specs.Option.{option_map}
 use Rattle.wire.specs.declared.point.DeltaPoint.{DeltaPoint}
 use Rattle.wire.specs.declared.point.Reason.{Reason}
 use Rattle.wire.specs.declared.point.Reason.TheVariants.{Order, Cancel, Execution, Multiple}
-use Rattle.wire.specs.Points.{delta_at, points}
+use Rattle.wire.specs.Points.{points_in_delta}
 use Rattle.wire.specs.Reading.{Msg, reset, unavailable, mapping, full, delta}
 use Rattle.sink.specs.Events.{data_of, loss_of, refresh_of, restart_of}
 use Rattle.tally.specs.declared.row.Row.{Row}
@@ -34,7 +34,7 @@ told_ordered (reset n) c o = o
 told_ordered (unavailable b e) c o = o
 told_ordered mapping c o = o
 told_ordered (full i s ps) c o = o
-told_ordered (delta i s ps) c o = points_ordered i (points 28 delta_at ps) c o
+told_ordered (delta i s ps) c o = points_ordered i (points_in_delta ps) c o
 
 pub keeps_order : KeepsOrder
 keeps_order (data_of n m) c o = told_ordered m c o

@@ -6,7 +6,7 @@ use Rattle.rank.specs.Rows.{inserted, kept}
 use Rattle.wire.specs.declared.point.DeltaPoint.{DeltaPoint}
 use Rattle.wire.specs.declared.point.Reason.{Reason}
 use Rattle.wire.specs.declared.point.Reason.TheVariants.{Order, Cancel, Execution, Multiple}
-use Rattle.wire.specs.Points.{delta_at, points}
+use Rattle.wire.specs.Points.{points_in_delta}
 use Rattle.wire.specs.Reading.{Msg, reset, unavailable, mapping, full, delta}
 use Rattle.sink.specs.Events.{Event, data_of, loss_of, refresh_of, restart_of}
 use Rattle.tally.specs.declared.row.Row.{Row}
@@ -82,7 +82,7 @@ told (reset n) c = c
 told (unavailable b e) c = c
 told mapping c = c
 told (full i s ps) c = c
-told (delta i s ps) c = points_added i (points 28 delta_at ps) c
+told (delta i s ps) c = points_added i (points_in_delta ps) c
 
 -- what an event makes of a tally: restart and refresh leave it as it is
 abbrev pub step : Event → Counts → Counts

@@ -1,7 +1,7 @@
 //! The tally: executed volume by index.
 ghost use Rattle.std.specs.Prelude.{◌≡◌, ◌≤◌, length, take};
 ghost use Rattle.rank.specs.Rows.{Sorted, inserted, Sorted-prop};
-ghost use Rattle.wire.specs.Points.{delta_at, points as points_in};
+ghost use Rattle.wire.specs.Points.{points_in_delta};
 ghost use Rattle.tally.specs.Rows.{row_key, row_before};
 
 use crate::row::{ByIndex, Row};
@@ -91,7 +91,7 @@ impl Tally<'_> {
 
     // Adds what the points of a delta say, in their order.
     fn add_points(&mut self, index: u16, points: &[u8])
-        ensures { meant self.new ≡ points_added index (points_in 28 delta_at points.now) (meant self.old) }
+        ensures { meant self.new ≡ points_added index (points_in_delta points.now) (meant self.old) }
     {
         for point in Points::<DeltaPoint>::new(points) {
             self.add_point(index, point);

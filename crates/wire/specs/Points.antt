@@ -69,11 +69,12 @@ module _ {P : Type 0} (size : ℕ) (at : List ℕ → ℕ → P) where
   abbrev pub point_in : List ℕ → ℕ → Option P
   point_in ps i = cond (nat_lt i (length ps / size)) (Some (at ps (i * size))) None
 
-abbrev pub full_point : List ℕ → ℕ → Option PricePoint
-full_point = point_in 12 full_at
+-- the points of a full update, and those of a delta
+abbrev pub points_in_full : List ℕ → List PricePoint
+points_in_full = points 12 full_at
 
-abbrev pub delta_point : List ℕ → ℕ → Option DeltaPoint
-delta_point = point_in 28 delta_at
+abbrev pub points_in_delta : List ℕ → List DeltaPoint
+points_in_delta = points 28 delta_at
 
 -- what begins at an offset behind the first n bytes begins n bytes further in the whole
 abbrev pub Shifts : {P : Type 0} → (List ℕ → ℕ → P) → Type 0
