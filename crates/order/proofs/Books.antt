@@ -5,7 +5,7 @@ use Rattle.std.specs.Option.{option_or}
 use Rattle.wire.specs.Reading.{Msg, reset, unavailable, mapping, full, delta}
 use Rattle.sink.specs.Events.{Event}
 use Rattle.sink.specs.Views.{Moves}
-use Rattle.books.specs.Keepers.{Kept, keeper_step, book_of}
+use Rattle.book_model.specs.Keepers.{Kept, keeper_step, book_of}
 use Rattle.order.specs.Maps.{lookup, has, insert}
 use Rattle.order.specs.Machine.{Call, made, offered, claimed, settled, restarted, History, Content, carries, declares, renews, nothing, Deed, begins, took, deed, Standing, idle, pass, passes, drain, joins, does, machine, led}
 use Rattle.order.specs.Promise.{Allowed, Earned, joined, since, begun, start, first_data}

@@ -6,10 +6,10 @@ use Rattle.wire.specs.declared.point.Side.{Side}
 use Rattle.wire.specs.declared.point.Side.TheVariants.{Buy, Sell}
 use Rattle.wire.specs.Reading.{Msg, reset, unavailable, mapping, full, delta}
 use Rattle.sink.specs.Events.{data_of, refresh_of}
-use Rattle.books.specs.declared.level.Level.{Level}
-use Rattle.books.specs.Levels.{price_of, before, changed}
-use Rattle.books.specs.Entering.{Known, unknown, emptied, touched_at, levels, put, put_all, limited, filled, full_points, delta_points}
-use Rattle.books.specs.Keepers.{Kept, book_of, changed_at, forgotten, keeper_step}
+use Rattle.book_model.specs.declared.level.Level.{Level}
+use Rattle.book_model.specs.Levels.{price_of, before, changed}
+use Rattle.book_model.specs.Entering.{Known, unknown, emptied, touched_at, levels, put, put_all, limited, filled, full_points, delta_points}
+use Rattle.book_model.specs.Keepers.{Kept, book_of, changed_at, forgotten, keeper_step}
 use Rattle.order.specs.Machine.{turn}
 use Rattle.order.proofs.Plain.{never}
 use Rattle.order.specs.Books.{Sides, no_levels, sides_of, whole_book, full_entered, delta_entered, sent}

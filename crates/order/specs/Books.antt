@@ -3,9 +3,9 @@ use Rattle.std.specs.Prelude.{◌≡◌, ℕ, zero, suc, ◌+◌, ◌-◌, ◌<�
 use Rattle.wire.specs.Reading.{Msg, reset, unavailable, mapping, full, delta}
 use Rattle.sink.specs.Events.{Event}
 use Rattle.sink.specs.Views.{Moves}
-use Rattle.books.specs.declared.level.Level.{Level}
-use Rattle.books.specs.Entering.{Known, put_all, full_points, delta_points}
-use Rattle.books.specs.Keepers.{Kept, keeper_step, book_of}
+use Rattle.book_model.specs.declared.level.Level.{Level}
+use Rattle.book_model.specs.Entering.{Known, put_all, full_points, delta_points}
+use Rattle.book_model.specs.Keepers.{Kept, keeper_step, book_of}
 use Rattle.order.specs.Machine.{History, Content, carries, declares, renews, nothing, machine, led}
 use Rattle.order.specs.Promise.{Earned, since, start}
 

@@ -4,8 +4,8 @@
 ghost use Rattle.order.specs.Machine.{WaitingRises};
 ghost use Rattle.order.specs.Promise.{OrderStands, LastStands, TakenOnce};
 ghost use Rattle.order.specs.Books.{BooksStand};
-ghost use Rattle.sink.specs.Views.{WholeMoves, FirstMoves, SecondMoves};
-ghost use Rattle.books.specs.Keepers.{keeper_step};
+ghost use Rattle.sink.specs.Views.{FirstMoves, SecondMoves};
+ghost use Rattle.book_model.specs.Keepers.{keeper_step};
 
 use sink::Sink;
 
@@ -39,10 +39,8 @@ pub fn books_stand<S: Sink>()
     ensures { BooksStand S.Sink.step }
 {}
 
-/// A keeper moves as a keeper, and what moves so in one of two sinks moves so in their twin: a theorem, so that the books of a keeper at any depth of
-/// twins are promised.
+/// What moves as a keeper in one of two sinks moves so in their twin: a theorem, so that the books of a keeper at any depth of twins are promised.
 pub fn keepers_move<A: Sink, B: Sink>()
-    ensures whole { WholeMoves keeper_step }
     ensures first { FirstMoves A.Sink.step B.Sink.step keeper_step }
     ensures second { SecondMoves A.Sink.step B.Sink.step keeper_step }
 {}

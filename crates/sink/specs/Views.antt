@@ -10,10 +10,6 @@ both first second e m = (first e m.0, second e m.1)
 abbrev pub Moves : {M N : Type 0} → (Event → M → M) → (Event → N → N) → (M → N) → Type 0
 Moves {M = M} step other view = (e : Event) (m : M) → view (step e m) ≡ other e (view m)
 
--- all of a machine moves as itself
-abbrev pub WholeMoves : {M : Type 0} → (Event → M → M) → Type 0
-WholeMoves step = Moves step step (λ m. m)
-
 -- a view of the first, and of the second, of two machines moves in both as it does alone
 abbrev pub FirstMoves : {M N V : Type 0} → (Event → M → M) → (Event → N → N) → (Event → V → V) → Type 0
 FirstMoves {M = M} {V = V} first second other = (view : M → V) → Moves first other view → Moves (both first second) other (λ m. view m.0)

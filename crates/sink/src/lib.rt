@@ -4,7 +4,7 @@
 ghost use Rattle.std.specs.Prelude.{◌≡◌};
 ghost use Rattle.wire.specs.Reading.{model};
 ghost use Rattle.sink.specs.Events.{Event, data_of, loss_of, refresh_of, restart_of};
-ghost use Rattle.sink.specs.Views.{both, WholeMoves, FirstMoves, SecondMoves};
+ghost use Rattle.sink.specs.Views.{both, FirstMoves, SecondMoves};
 
 use wire::Message;
 
@@ -100,11 +100,6 @@ impl<A: Sink, B: Sink> Sink for Twin<A, B> {
         self.second.restart(number);
     }
 }
-
-/// The meaning of a sink moves as the sink does: a theorem.
-pub fn moves<S: Sink>()
-    ensures { WholeMoves S.Sink.step }
-{}
 
 /// A view of the first, or the second, of two sinks that moves as a third does moves so in their twin too: a theorem.
 pub fn twin_moves<A: Sink, B: Sink, C: Sink>()

@@ -1,9 +1,9 @@
 //! The orders of a book's two sides.
 ghost use Rattle.std.specs.Prelude.{nat_lt};
-ghost use Rattle.ladder.proofs.Numbers.{rising_irreflexive, rising_transitive, rising_total};
+ghost use Rattle.rank.proofs.Numbers.{rising_one, rising_transitive};
 
 use crate::level::Level;
-use ladder::{Backwards, Rank};
+use rank::{Backwards, Rank};
 
 /// The rank of levels by price: the lower price comes first.
 // Kept beside the tally's rank of rows by index: it reads another field of another row, as another kind of number.
@@ -25,11 +25,9 @@ impl Rank for ByPrice {
 
     ghost before = { λ a b. nat_lt a b };
 
-    ghost irreflexive = { rising_irreflexive };
+    ghost exactly_one = { rising_one };
 
     ghost transitive = { rising_transitive };
-
-    ghost total = { rising_total };
 
     fn key(row: &Level) -> u64 {
         row.price

@@ -1,16 +1,14 @@
 -- A book as it is known, and what the points of a message make of it.
-use Rattle.std.specs.Prelude.{ℕ, ◌*◌, ◌/◌, Bool, true, false, cond, List, [], ◌∷◌, map, length, take, nat_le}
-use Rattle.std.specs.List.{range_with_len}
+use Rattle.std.specs.Prelude.{ℕ, Bool, true, false, cond, List, [], ◌∷◌, map, length, nat_le}
 use Rattle.wire.specs.declared.point.Side.{Side}
 use Rattle.wire.specs.declared.point.Side.TheVariants.{Buy, Sell}
 use Rattle.wire.specs.declared.point.PricePoint.{PricePoint}
-use Rattle.wire.specs.Points.{full_at, delta_at}
-use Rattle.books.specs.declared.level.Level.{Level}
-use Rattle.books.specs.declared.level.Point.{Point}
-use Rattle.books.specs.declared.book.Book.{Book}
-use Rattle.books.specs.declared.book.Start.{Start}
-use Rattle.books.specs.declared.book.Start.TheVariants as start
-use Rattle.books.specs.Levels.{price_of, before, changed, named}
+use Rattle.wire.specs.Points.{points_in_full, points_in_delta}
+use Rattle.book_model.specs.declared.level.Level.{Level}
+use Rattle.book_model.specs.declared.level.Point.{Point}
+use Rattle.book_model.specs.declared.start.Start.{Start}
+use Rattle.book_model.specs.declared.start.Start.TheVariants as start
+use Rattle.book_model.specs.Levels.{price_of, before, changed, named}
 
 -- A book: whole where all that was told of it since its last full update is known, the number of the data that last touched it
 -- since the last loss or restart, and the levels of its two sides.
@@ -19,10 +17,6 @@ pub record Known : Type 0 where
   pub touched : ℕ
   pub buys : List Level
   pub sells : List Level
-
--- a book's row, with the rows for its levels
-abbrev pub known : Book → List Level → List Level → Known
-known b xs ys = record { whole = b.whole; touched = b.touched; buys = take b.buys xs; sells = take b.sells ys }
 
 -- a book with no level
 abbrev pub emptied : Bool → ℕ → Known
@@ -64,17 +58,17 @@ abbrev pub filled : ℕ → List Point → Known → Known
 filled d [] b = b
 filled d (p ∷ ps) b = cond b.whole (filled d ps (limited d p.side p.level b)) b
 
--- the points of a full update, at the scale of the message
-abbrev pub full_points : ℕ → List ℕ → List Point
-full_points scale bs = map (λ i. named scale (full_at bs (i * 12))) (range_with_len 0 (length bs / 12))
-
--- the points of a delta, at the scale of the message
-abbrev pub delta_points : ℕ → List ℕ → List Point
-delta_points scale bs = map (λ i. named scale (delta_at bs (i * 28)).level) (range_with_len 0 (length bs / 28))
-
 -- points as they are told, at the scale of the message: `level` is the level that a point names
 abbrev pub points_of : {P : Type 0} → (P → PricePoint) → ℕ → List P → List Point
 points_of level scale ps = map (λ p. named scale (level p)) ps
+
+-- the points of a full update, at the scale of the message
+abbrev pub full_points : ℕ → List ℕ → List Point
+full_points scale bs = points_of (λ p. p) scale (points_in_full bs)
+
+-- the points of a delta, at the scale of the message
+abbrev pub delta_points : ℕ → List ℕ → List Point
+delta_points scale bs = points_of (λ p. p.level) scale (points_in_delta bs)
 
 -- a book as a message with points begins
 abbrev pub begun : Start → Known → Known

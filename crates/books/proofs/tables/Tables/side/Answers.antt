@@ -1,9 +1,10 @@
 use Rattle.std.proofs.Common.{sym, ap, ◌∙◌, arith}
-use Rattle.books.specs.Entering.{levels, unknown}
-use Rattle.books.specs.Keepers.{blank, tables_known}
+use Rattle.book_model.specs.Entering.{levels, unknown}
+use Rattle.books.specs.Tabled.{blank}
+use Rattle.books.specs.Keepers.{tables_known}
 use Rattle.std.specs.Prelude.{slice_index_or}
 use Rattle.books.proofs.Rows.{buys_shown, sells_shown}
-use Rattle.books.proofs.tables.Tables.levels.Goals as goal
+use Rattle.books.proofs.tables.Tables.side.Goals as goal
 
 pub returns-in-Buy : goal.returns-in-Buy
 returns-in-Buy c =

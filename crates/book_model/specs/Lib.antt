@@ -1,0 +1,4 @@
+pub mod Levels
+pub mod Entering
+pub mod Keepers
+pub mod Laws
