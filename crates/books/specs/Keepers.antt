@@ -1,7 +1,7 @@
 -- What a keeper's tables hold, what the code's keeper stands for, and what is read of it.
 use Rattle.std.specs.Prelude.{◌≡◌, ℕ, suc, ◌+◌, ◌*◌, ◌<◌, ◌≤◌, min, Bool, cond, List, [], length, take, drop, replicate, Some, None, Option, slice_index_or}
 use Rattle.wire.specs.declared.point.Side.{Side}
-use Rattle.wire.specs.Texts.{refused_text}
+use Rattle.common.specs.Texts.{refused_text}
 use Rattle.book_model.specs.declared.level.Level.{Level}
 use Rattle.book_model.specs.Entering.{Known, unknown, levels}
 use Rattle.book_model.specs.Keepers.{Kept, changed_at, book_of}

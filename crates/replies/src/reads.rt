@@ -9,7 +9,8 @@ use std::alloc::{AllocError, Global};
 use std::fmt;
 use wire::Side;
 
-fn whole_text(whole: bool) -> &'static str
+/// Whether a book is whole, in a word: `whole` or `partial`.
+pub fn whole_text(whole: bool) -> &'static str
     ensures { result.now ≡ whole_text whole }
 {
     if whole { "whole" } else { "partial" }
