@@ -5,6 +5,7 @@ ghost use Rattle.channel.specs.States.{last_of};
 ghost use Rattle.channel.specs.Channels.{state};
 ghost use Rattle.channel.specs.Offers.{offer_answer, offer_after, offer_scratch};
 ghost use Rattle.channel.specs.Calls.{make_answer, make_after, claim_answer, claim_after, claim_buffer, settle_answer, settle_after, restart_answer, restart_after};
+ghost use Rattle.channel.specs.Laws.{GivenAsks};
 ghost use Rattle.channel.specs.Kept.{GoesOn, Begins};
 
 use crate::channel::Channel;
@@ -24,7 +25,8 @@ impl<S: Sink, H: Shelf> Channel<S, H> {
         }
     }
 
-    /// Opens the channel at a first number, with its number and the source id of its requests.
+    /// Opens the channel at a first number, with its number and the source id of its requests. Channels in use at once are to have different numbers:
+    /// a claim is known by its channel's number and its serial, so only then is the range that a settlement counts the range of the claim that is given.
     pub fn make(&mut self, number: u8, source: &[u8], first: u32) -> Result<(), ChannelFault>
         ensures answer { result ≡ make_answer (state (S.Sink) (H.Shelf) self.old) source.now first }
         ensures after { state (S.Sink) (H.Shelf) self.new ≡ make_after S.Sink.step (state (S.Sink) (H.Shelf) self.old) number source.now first }
@@ -49,6 +51,7 @@ impl<S: Sink, H: Shelf> Channel<S, H> {
         ensures answer { result ≡ claim_answer (state (S.Sink) (H.Shelf) self.old) buffer.old }
         ensures after { state (S.Sink) (H.Shelf) self.new ≡ claim_after (state (S.Sink) (H.Shelf) self.old) buffer.old }
         ensures buffer { buffer.new ≡ claim_buffer (state (S.Sink) (H.Shelf) self.old) time buffer.old }
+        ensures asks { GivenAsks (state (S.Sink) (H.Shelf) self.old) time buffer.old result }
         ensures stands { GoesOn S.Sink.step (claimed (is_ok result)) (state (S.Sink) (H.Shelf) self.old) (state (S.Sink) (H.Shelf) self.new) }
     {
         self.claim_step(time, buffer)
@@ -70,6 +73,14 @@ impl<S: Sink, H: Shelf> Channel<S, H> {
         ensures stands { GoesOn S.Sink.step (restarted number (is_ok result)) (state (S.Sink) (H.Shelf) self.old) (state (S.Sink) (H.Shelf) self.new) }
     {
         self.restart_step(number)
+    }
+
+    /// The sink and the shelf back, from a channel that is open or closed. A claim that is out stays with whom it was given to.
+    pub fn into_parts(self) -> (S, H)
+        ensures { result ≡ (self.handover.sink, self.handover.shelf) }
+    {
+        let Channel { open: _, handover } = self;
+        handover.into_parts()
     }
 
     /// The last number that was handed over, of a channel that is open.

@@ -3,15 +3,15 @@ use Rattle.std.specs.Prelude.{◌≡◌, ℕ, true, false, cond, List, [], ◌�
 use Rattle.wire.specs.Reading.{Msg, mapping, full, delta}
 use Rattle.slot_shelf.specs.Slots.{empty_store}
 use Rattle.sink.specs.Events.{data_of, loss_of, refresh_of, restart_of}
-use Rattle.books.specs.Entering.{emptied}
-use Rattle.books.specs.Keepers.{Kept, keeper_step, book_of}
+use Rattle.book_model.specs.Entering.{emptied}
+use Rattle.book_model.specs.Keepers.{Kept, keeper_step, book_of}
 use Rattle.order.specs.Machine.{History, made, offered, claimed, settled, machine}
 use Rattle.order.specs.Promise.{Earned, since, start}
 use Rattle.channel.specs.States.{State}
 use Rattle.channel.specs.Follows.{Ask, make, offer, claim, settle}
 use Rattle.order.specs.Books.{no_levels, Stream, AllTrue}
 use Rattle.channel.specs.Runs.{run, logged}
-use Rattle.channel.specs.Packets.{mapping_packet, range_packet, full_point, full_packet, delta_point, delta_packet, scratch}
+use Rattle.channel_cases.specs.Packets.{mapping_packet, range_packet, full_point, full_packet, delta_point, delta_packet, scratch}
 
 -- index 1: a full book at 1, then changes at 2, 3 and 5
 abbrev pub quotes : ℕ → Msg

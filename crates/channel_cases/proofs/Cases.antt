@@ -1,7 +1,7 @@
 -- The worked cases, by computing.
 use Rattle.std.proofs.Common.{refl}
 use Rattle.wire.specs.Bytes.{first}
-use Rattle.channel.specs.Cases.{Cases}
+use Rattle.channel_cases.specs.Cases.{Cases}
 
 pub cases : Cases
 unfolding first

@@ -5,11 +5,11 @@ use Rattle.shelf.specs.Store.{Store, has, priced, with_held}
 use Rattle.slot_shelf.specs.Slots.{empty_store}
 use Rattle.chain_shelf.specs.Chain as chain
 use Rattle.sink.specs.Events.{Event, data_of, loss_of}
-use Rattle.books.specs.Entering.{emptied}
-use Rattle.books.specs.Keepers.{Kept, keeper_step}
+use Rattle.book_model.specs.Entering.{emptied}
+use Rattle.book_model.specs.Keepers.{Kept, keeper_step}
 use Rattle.channel.specs.States.{State}
 use Rattle.channel.specs.Calls.{make_after}
-use Rattle.channel.specs.Packets.{mapping_packet, range_packet, full_packet, opened_at, packets_from, note, handed, refused, outcomes, offered_all}
+use Rattle.channel_cases.specs.Packets.{mapping_packet, range_packet, full_packet, opened_at, packets_from, note, handed, refused, outcomes, offered_all}
 
 -- an empty chain shelf of the least region
 abbrev pub empty_chain : Store

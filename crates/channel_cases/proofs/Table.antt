@@ -1,10 +1,11 @@
 -- The worked cases, by computing.
 use Rattle.std.proofs.Common.{refl}
 use Rattle.wire.specs.Bytes.{first}
-use Rattle.channel.specs.Table.{Table}
+use Rattle.wire.specs.Points.{points}
+use Rattle.channel_cases.specs.Table.{Table}
 
 pub table : Table
-unfolding first
+unfolding first points
 table = record {
   cost_54 = refl;
   cost_55 = refl;

@@ -1,10 +1,11 @@
 -- The sample run, by computing.
 use Rattle.std.proofs.Common.{refl, inr, lit<, lit≤}
 use Rattle.wire.specs.Bytes.{first}
-use Rattle.channel.specs.Sample.{SampleHolds}
+use Rattle.wire.specs.Points.{points}
+use Rattle.channel_cases.specs.Sample.{SampleHolds}
 
 pub sample_holds : SampleHolds
-unfolding first
+unfolding first points
 sample_holds = record {
   history = refl;
   earned = (

@@ -16,7 +16,7 @@ use Rattle.handover.specs.declared.handover.Taken.{Taken}
 use Rattle.channel.specs.States.{State}
 use Rattle.channel.specs.Offers.{offer_answer, offer_after, offer_scratch}
 use Rattle.channel.specs.Calls.{make_answer, make_after, claim_answer, claim_buffer, claim_after, settle_answer, settle_after, restart_answer, restart_after}
-use Rattle.channel.specs.Packets.{linked, reset_packet, mapping_packet, range_packet, full_body, full_packet, delta_packet, scratch, opened_at, packets_from, note}
+use Rattle.channel_cases.specs.Packets.{linked, reset_packet, mapping_packet, range_packet, full_body, full_packet, delta_packet, scratch, opened_at, packets_from, note}
 
 -- a channel that is closed
 abbrev pub closed : State (List Event)
