@@ -6,7 +6,6 @@ use Rattle.std.proofs.lemmas.Bool.{cond_both, cond-true, leb-true, le-leb}
 use Rattle.wire.specs.declared.point.Side.{Side}
 use Rattle.wire.specs.declared.point.Side.TheVariants.{Buy, Sell}
 use Rattle.wire.specs.Reading.{reset, unavailable, mapping, full, delta}
-use Rattle.rank.specs.Laws.{RowLaws}
 use Rattle.sink.specs.Events.{Event, data_of, loss_of, refresh_of, restart_of}
 use Rattle.book_model.specs.declared.level.Level.{Level}
 use Rattle.book_model.specs.declared.level.Point.{Point}
@@ -15,9 +14,9 @@ use Rattle.book_model.specs.declared.start.Start.TheVariants as start
 use Rattle.book_model.specs.Levels.{price_of, before, changed}
 use Rattle.book_model.specs.Entering.{Known, unknown, emptied, touched_at, levels, put, put_all, limited, filled, begun, taken, told, full_points, delta_points}
 use Rattle.book_model.specs.Keepers.{Kept, keeper_step, at_book, heard, book_of}
-use Rattle.book_model.specs.Laws.{Laddered, InOrder, PointsFit, AfterPoints, Keeping}
-use Rattle.book_model.proofs.Sides.{whole_with, touched_with}
-use Rattle.book_model.proofs.Prices.{Sides, changed_sorted, all_after}
+use Rattle.book_model.specs.Laws.{Ordered, Laddered, InOrder, PointsFit, AfterPoints, Keeping}
+use Rattle.book_model.proofs.Sides.{whole_with, touched_with, changed_sorted, none_sorted, begun_sorted}
+use Rattle.book_model.proofs.Prices.{all_after}
 
 -- both sides of a book are in order
 abbrev Both : ℕ → Known → Type 0
@@ -82,12 +81,12 @@ heard_fit i s ps k b e t w f =
 is_some_and : {X : Type 0} (P : X → Type 0) (o : Option X) (x : X) → o ≡ Some x → P x → IsSomeAnd o P
 is_some_and P o x e p = subst (λ o. IsSomeAnd o P) (sym e) p
 
-module _ (laws : (s : Side) → RowLaws price_of (before s)) (d : ℕ) where
+module _ (d : ℕ) where
   put_ordered : (s : Side) (l : Level) (b : Known) → length (levels s (put s l b)) ≤ d → Both d b → Both d (put s l b)
-  put_ordered Buy l b h o Buy = record { sorted = changed_sorted laws Buy l b.buys (o Buy).sorted; few = h }
+  put_ordered Buy l b h o Buy = record { sorted = changed_sorted Buy l b.buys (o Buy).sorted; few = h }
   put_ordered Buy l b h o Sell = record { sorted = (o Sell).sorted; few = (o Sell).few }
   put_ordered Sell l b h o Buy = record { sorted = (o Buy).sorted; few = (o Buy).few }
-  put_ordered Sell l b h o Sell = record { sorted = changed_sorted laws Sell l b.sells (o Sell).sorted; few = h }
+  put_ordered Sell l b h o Sell = record { sorted = changed_sorted Sell l b.sells (o Sell).sorted; few = h }
 
   limited_ordered : (s : Side) (l : Level) (b : Known) → Both d b → Both d (limited d s l b)
   limited_ordered s l b o =
@@ -106,57 +105,48 @@ module _ (laws : (s : Side) → RowLaws price_of (before s)) (d : ℕ) where
   told_ordered : (s : Start) (ps : List Point) (b : Known) → Both d b → Both d (told d s ps b)
   told_ordered s ps b o = cond_both (taken s b) _ _ (Both d) (λ _. filled_ordered ps (begun s b) (begun_ordered s b o)) (λ _. o)
 
-module _ (laws : (s : Side) → RowLaws price_of (before s)) where
-  heard_ordered : (i : ℕ) (s : Start) (ps : List Point) (k : Kept) → InOrder k → InOrder (heard i s ps k)
-  heard_ordered i s ps k o = at_ordered i (told k.depth s ps) k (told_ordered laws k.depth s ps) o
+heard_ordered : (i : ℕ) (s : Start) (ps : List Point) (k : Kept) → InOrder k → InOrder (heard i s ps k)
+heard_ordered i s ps k o = at_ordered i (told k.depth s ps) k (told_ordered k.depth s ps) o
 
-  order : (e : Event) (k : Kept) → InOrder k → InOrder (keeper_step e k)
-  order (data_of n (full i s ps)) k o = heard_ordered i (start.Full n) (full_points s ps) k o
-  order (data_of n (delta i s ps)) k o = heard_ordered i (start.Delta n) (delta_points s ps) k o
-  order (data_of n (reset m)) k o = o
-  order (data_of n (unavailable b e)) k o = o
-  order (data_of n mapping) k o = o
-  order (loss_of n) k o = record { all = all_none k.depth (length k.books) }
-  order (refresh_of n (full i s ps)) k o = cond_both (leb k.mark n) _ _ InOrder (λ _. heard_ordered i (start.Refresh n) (full_points s ps) k o) (λ _. o)
-  order (refresh_of n (delta i s ps)) k o = o
-  order (refresh_of n (reset m)) k o = o
-  order (refresh_of n (unavailable b e)) k o = o
-  order (refresh_of n mapping) k o = o
-  order (restart_of n) k o = record { all = all_none k.depth (length k.books) }
+order : (e : Event) (k : Kept) → InOrder k → InOrder (keeper_step e k)
+order (data_of n (full i s ps)) k o = heard_ordered i (start.Full n) (full_points s ps) k o
+order (data_of n (delta i s ps)) k o = heard_ordered i (start.Delta n) (delta_points s ps) k o
+order (data_of n (reset m)) k o = o
+order (data_of n (unavailable b e)) k o = o
+order (data_of n mapping) k o = o
+order (loss_of n) k o = record { all = all_none k.depth (length k.books) }
+order (refresh_of n (full i s ps)) k o = cond_both (leb k.mark n) _ _ InOrder (λ _. heard_ordered i (start.Refresh n) (full_points s ps) k o) (λ _. o)
+order (refresh_of n (delta i s ps)) k o = o
+order (refresh_of n (reset m)) k o = o
+order (refresh_of n (unavailable b e)) k o = o
+order (refresh_of n mapping) k o = o
+order (restart_of n) k o = record { all = all_none k.depth (length k.books) }
 
-  after_all : (ps : List Point) (b : Known) → Sides b → AfterPoints ps b (put_all ps b)
-  after_all ps b o = record { whole = all_whole ps b; touched = all_touched ps b; each = all_after laws ps b o }
+after_all : (ps : List Point) (b : Known) → Ordered b → AfterPoints ps b (put_all ps b)
+after_all ps b o = record { whole = all_whole ps b; touched = all_touched ps b; each = all_after ps b o }
 
-  no_sides : (w : Bool) (t : ℕ) → Sides (emptied w t)
-  no_sides w t Buy = tt
-  no_sides w t Sell = tt
+full_is : (n i s : ℕ) (ps : List ℕ) (k : Kept) → i < length k.books → PointsFit k.depth (full_points s ps) (emptied true n)
+    → book_of (suc i) (keeper_step (data_of n (full (suc i) s ps)) k).books ≡ Some (put_all (full_points s ps) (emptied true n))
+full_is n i s ps k h f = nth_set k.books i _ h ∙ ap (λ b. Some b) (filled_fit k.depth (full_points s ps) (emptied true n) refl f)
 
-  touched_sides : (d n : ℕ) (b : Known) → Both d b → Sides (touched_at n b)
-  touched_sides d n b o Buy = (o Buy).sorted
-  touched_sides d n b o Sell = (o Sell).sorted
+refresh_is : (n i s : ℕ) (ps : List ℕ) (k : Kept) (b : Known) → book_of (suc i) k.books ≡ Some b → k.mark ≤ n → b.touched ≤ n → PointsFit k.depth (full_points s ps) (emptied true b.touched)
+    → book_of (suc i) (keeper_step (refresh_of n (full (suc i) s ps)) k).books ≡ Some (put_all (full_points s ps) (emptied true b.touched))
+refresh_is n i s ps k b e m t f =
+    ap (λ k. book_of (suc i) k.books) (cond-true (leb k.mark n) (heard (suc i) (start.Refresh n) (full_points s ps) k) k (le-leb k.mark n m))
+    ∙ heard_fit i (start.Refresh n) (full_points s ps) k b e (le-leb b.touched n t) refl f
 
-  full_is : (n i s : ℕ) (ps : List ℕ) (k : Kept) → i < length k.books → PointsFit k.depth (full_points s ps) (emptied true n)
-      → book_of (suc i) (keeper_step (data_of n (full (suc i) s ps)) k).books ≡ Some (put_all (full_points s ps) (emptied true n))
-  full_is n i s ps k h f = nth_set k.books i _ h ∙ ap (λ b. Some b) (filled_fit k.depth (full_points s ps) (emptied true n) refl f)
-
-  refresh_is : (n i s : ℕ) (ps : List ℕ) (k : Kept) (b : Known) → book_of (suc i) k.books ≡ Some b → k.mark ≤ n → b.touched ≤ n → PointsFit k.depth (full_points s ps) (emptied true b.touched)
-      → book_of (suc i) (keeper_step (refresh_of n (full (suc i) s ps)) k).books ≡ Some (put_all (full_points s ps) (emptied true b.touched))
-  refresh_is n i s ps k b e m t f =
-      ap (λ k. book_of (suc i) k.books) (cond-true (leb k.mark n) (heard (suc i) (start.Refresh n) (full_points s ps) k) k (le-leb k.mark n m))
-      ∙ heard_fit i (start.Refresh n) (full_points s ps) k b e (le-leb b.touched n t) refl f
-
-  pub keeps : Keeping
-  keeps =
-      record {
-        begins = λ d n. record { all = all_none d n };
-        order = order;
-        full_known = full_is;
-        refresh_known = refresh_is;
-        whole = λ ps n. all_whole ps (emptied true n);
-        full_levels = λ n i s ps k h f. is_some_and _ _ _ (full_is n i s ps k h f) (after_all (full_points s ps) (emptied true n) (no_sides true n));
-        refresh_levels = λ n i s ps k b e m t f. is_some_and _ _ _ (refresh_is n i s ps k b e m t f) (after_all (full_points s ps) (emptied true b.touched) (no_sides true b.touched));
-        delta_levels = λ n i s ps k b o e w f.
-            let at = nth_some k.books i unknown b e in
-            let both = subst (Both k.depth) at.1 (one_of k.depth k.books i o.all) in
-            is_some_and _ _ _ (heard_fit i (start.Delta n) (delta_points s ps) k b e refl w f) (after_all (delta_points s ps) (touched_at n b) (touched_sides k.depth n b both));
-      }
+pub keeps : Keeping
+keeps =
+    record {
+      begins = λ d n. record { all = all_none d n };
+      order = order;
+      full_known = full_is;
+      refresh_known = refresh_is;
+      whole = λ ps n. all_whole ps (emptied true n);
+      full_levels = λ n i s ps k h f. is_some_and _ _ _ (full_is n i s ps k h f) (after_all (full_points s ps) (emptied true n) (none_sorted true n));
+      refresh_levels = λ n i s ps k b e m t f. is_some_and _ _ _ (refresh_is n i s ps k b e m t f) (after_all (full_points s ps) (emptied true b.touched) (none_sorted true b.touched));
+      delta_levels = λ n i s ps k b o e w f.
+          let at = nth_some k.books i unknown b e in
+          let both = subst (Both k.depth) at.1 (one_of k.depth k.books i o.all) in
+          is_some_and _ _ _ (heard_fit i (start.Delta n) (delta_points s ps) k b e refl w f) (after_all (delta_points s ps) (touched_at n b) (begun_sorted (start.Delta n) b (λ s. (both s).sorted)));
+    }

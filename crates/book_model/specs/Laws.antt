@@ -5,13 +5,22 @@ use Rattle.std.specs.Option.{option_or}
 use Rattle.wire.specs.declared.point.Side.{Side}
 use Rattle.wire.specs.declared.point.Side.TheVariants.{Buy, Sell}
 use Rattle.wire.specs.Reading.{full, delta}
-use Rattle.rank.specs.Rows.{Sorted, kept}
+use Rattle.std.specs.Coded.{Π_prop}
+use Rattle.rank.specs.Rows.{Sorted, Sorted-prop, kept}
 use Rattle.sink.specs.Events.{Event, data_of, refresh_of}
 use Rattle.book_model.specs.declared.level.Level.{Level}
 use Rattle.book_model.specs.declared.level.Point.{Point}
 use Rattle.book_model.specs.Levels.{price_of, before}
 use Rattle.book_model.specs.Entering.{Known, emptied, touched_at, levels, put, put_all, full_points, delta_points}
 use Rattle.book_model.specs.Keepers.{Kept, fresh, keeper_step, book_of}
+
+-- both sides of a book are in order: each level strictly before the next
+abbrev pub Ordered : Known → Type 0
+Ordered b = (s : Side) → Sorted price_of (before s) (levels s b)
+
+-- that they are has one proof at most
+pub Ordered-prop : (b : Known) → IsProp (Ordered b)
+Ordered-prop b = Π_prop (λ s. Sorted-prop price_of (before s) (levels s b))
 
 -- a side in order: each level strictly before the next, and at most d of them
 pub record Laddered (d : ℕ) (b : Known) (s : Side) : Type 0 where

@@ -1,12 +1,8 @@
 //! What holds of a keeper.
 ghost use Rattle.book_model.specs.Laws.{Keeping};
 
-use crate::by_price::{Buys, Sells};
-
 /// What always holds of a keeper, whatever it is told: a theorem.
+#[tactic(auto, using(crate::proofs::Orders::keeps))]
 pub fn keeping()
     ensures { Keeping }
-{
-    rank::ordered::<Buys>();
-    rank::ordered::<Sells>();
-}
+{}

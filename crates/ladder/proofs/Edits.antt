@@ -3,7 +3,8 @@ use Rattle.std.proofs.Common.{◌≡◌, ℕ, ◌+◌, ◌-◌, ◌<◌, ◌≤�
 use lib.Seq.{paste, length-paste, take-paste, take-set-lt, take-append-add}
 use Rattle.std.proofs.lemmas.List.{length-take-le, length-set, length-drop, take-take, take_more_set, drop-drop, set_split, set-append_left, append_assoc}
 use Rattle.std.proofs.lemmas.Slice.{between_is}
-use Rattle.ladder.specs.Ladders.{past, entered, Found, Holds}
+use Rattle.ladder.specs.Ladders.{past, entered, Found}
+use Rattle.ladder.specs.Tables.{Holds}
 use Rattle.ladder.proofs.Places.{past_held, past_none}
 
 module _ {X : Type 0} (xs : List X) (count at : ℕ) (le : count ≤ length xs) where

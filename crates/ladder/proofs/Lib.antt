@@ -3,4 +3,3 @@ pub mod Places
 pub mod Orders
 pub mod Lookups
 pub mod Edits
-pub mod Numbers

@@ -1,9 +1,15 @@
--- What is found of each key after a row is entered or removed.
-use Rattle.std.proofs.Common.{◌≡◌, suc, Bool, true, false, cond, List, [], ◌∷◌, drop, Some, None, sym, refl, ap, ◌∙◌, ⊎_elim}
-use Rattle.std.proofs.lemmas.Bool.{cond_both, both_ways, cases_Bool}
-use Rattle.ladder.specs.Ladders.{fronted, looked, entered, removed}
-use Rattle.ladder.specs.Laws.{First, Sorted, placed, inserted, without, kept, Laws}
-use Rattle.ladder.proofs.Orders.{place_is, entered_is, removed_is, entered_sorted, removed_sorted}
+-- What a search finds in rows in order, and what is found of each key after a row is entered or removed.
+use Rattle.std.proofs.Common.{◌≡◌, ℕ, zero, suc, Bool, true, false, cond, not, List, [], ◌∷◌, drop, Some, None, sym, refl, ap, ◌∙◌, subst, arith}
+use Rattle.std.proofs.lemmas.Bool.{both_ways}
+use Rattle.std.specs.List.{slice_get}
+use Rattle.rank.specs.Keys.{ExactlyOne}
+use Rattle.rank.specs.Rows.{Sorted, placed, inserted, without, kept}
+use Rattle.rank.specs.Laws.{RowLaws}
+use Rattle.rank.proofs.Lookups as rows
+use Rattle.ladder.specs.Ladders.{held, fronted, looked, entered, removed, Found}
+use Rattle.ladder.specs.Tables.{There, Missing}
+use Rattle.ladder.specs.Laws.{Laws}
+use Rattle.ladder.proofs.Orders.{place_is, entered_is, removed_is}
 
 module _ {X K : Type 0} (key : X → K) (before : K → K → Bool) where
   -- the plain look-up is the one at the place of the key
@@ -13,79 +19,50 @@ module _ {X K : Type 0} (key : X → K) (before : K → K → Bool) where
       elim (before (key x) k) as (λ b. fronted key before k (drop (cond b (suc (placed key before k xs)) 0) (x ∷ xs)) ≡ cond b (kept key before k xs) (cond (before k (key x)) None (Some x)))
       [ true ↦ plain k xs | false ↦ refl ]
 
-  module _ (irreflexive : (a : K) → before a a ≡ false) (trans : (a b c : K) → before a b ≡ true → before b c ≡ true → before a c ≡ true) (total : (a b : K) → before a b ≡ false → before b a ≡ false → a ≡ b) where
-    not_back : (a b : K) → before a b ≡ true → before b a ≡ false
-    not_back a b h = ⊎_elim {C = before b a ≡ false} (λ t. absurd (both_ways _ (irreflexive a) (trans a b a h t))) (λ f. f) (cases_Bool (before b a))
+  -- the row at a place where the key is held
+  row_at : (k : K) (xs : List X) (at : ℕ) → held key before k (drop at xs) ≡ true → slice_get xs at ≡ fronted key before k (drop at xs)
+  row_at k [] zero h = absurd (both_ways _ refl h)
+  row_at k [] (suc at) h = absurd (both_ways _ refl h)
+  row_at k (x ∷ xs) zero h = elim (before k (key x)) as (λ b. not b ≡ true → Some x ≡ cond b None (Some x)) [ true ↦ λ h. absurd (both_ways _ refl h) | false ↦ λ h. refl ] h
+  row_at k (x ∷ xs) (suc at) h = row_at k xs at h
 
-    -- a key that is not k and not behind it is before it
-    ahead : (a k : K) → (k ≡ a → ⊥) → before a k ≡ false → before k a ≡ true
-    ahead a k n f = ⊎_elim {C = before k a ≡ true} (λ t. t) (λ g. absurd (n (total k a g f))) (cases_Bool (before k a))
+  no_row : (k : K) (ys : List X) → held key before k ys ≡ false → fronted key before k ys ≡ None
+  no_row k [] h = refl
+  no_row k (y ∷ ys) h = elim (before k (key y)) as (λ b. not b ≡ false → cond b None (Some y) ≡ None) [ true ↦ λ h. refl | false ↦ λ h. absurd (both_ways _ h refl) ] h
 
-    -- a key before the first row has none
-    none_first : (k : K) (y : X) (ys : List X) → before k (key y) ≡ true → kept key before k (y ∷ ys) ≡ None
-    none_first k y ys h = rw (not_back k (key y) h, h) refl
-
-    -- nor has one that is not behind a row before the first
-    none_behind : (k : K) (x : X) (xs : List X) → First key before x xs → ((y : X) → before (key x) (key y) ≡ true → before k (key y) ≡ true) → kept key before k xs ≡ None
-    none_behind k x [] f h = refl
-    none_behind k x (y ∷ ys) f h = none_first k y ys (h y f)
-
-    in_there : (r : X) (xs : List X) → kept key before (key r) (inserted key before r xs) ≡ Some r
-    in_there r [] = rw (irreflexive (key r)) refl
-    in_there r (x ∷ xs) =
-        cond_both (before (key x) (key r)) _ _ (λ ys. kept key before (key r) ys ≡ Some r)
-        (λ e. rw e (in_there r xs))
-        (λ e. cond_both (before (key r) (key x)) _ _ (λ ys. kept key before (key r) ys ≡ Some r) (λ f. rw (irreflexive (key r)) refl) (λ f. rw (irreflexive (key r)) refl))
-
-    -- a row that has not the key k is passed, or ends the search
-    passed : (r : X) (k : K) (xs : List X) → (k ≡ key r → ⊥) → kept key before k (r ∷ xs) ≡ cond (before (key r) k) (kept key before k xs) None
-    passed r k xs n =
-        elim (before (key r) k) as (λ b. before (key r) k ≡ b → cond b (kept key before k xs) (cond (before k (key r)) None (Some r)) ≡ cond b (kept key before k xs) None)
-        [ true ↦ λ e. refl | false ↦ λ e. rw (ahead (key r) k n e) refl ] refl
-
-    in_others : (r : X) (k : K) (xs : List X) → (k ≡ key r → ⊥) → kept key before k (inserted key before r xs) ≡ kept key before k xs
-    in_others r k [] n = passed r k [] n ∙ cond_both (before (key r) k) _ _ (λ o. o ≡ None) (λ e. refl) (λ e. refl)
-    in_others r k (x ∷ xs) n =
-        cond_both (before (key x) (key r)) _ _ (λ ys. kept key before k ys ≡ kept key before k (x ∷ xs))
-        (λ e. ap (λ o. cond (before (key x) k) o (cond (before k (key x)) None (Some x))) (in_others r k xs n))
-        (λ e. cond_both (before (key r) (key x)) _ _ (λ ys. kept key before k ys ≡ kept key before k (x ∷ xs))
-        (λ f. passed r k (x ∷ xs) n ∙ cond_both (before (key r) k) _ _ (λ o. o ≡ kept key before k (x ∷ xs)) (λ g. refl) (λ g. sym (none_first k x xs (trans _ _ _ (ahead (key r) k n g) f))))
-        (λ f. let same : key r ≡ key x = total _ _ f e in
-        passed r k xs n ∙ ap (λ a. cond (before a k) (kept key before k xs) None) same ∙ sym (passed x k xs (λ g. n (g ∙ sym same)))))
-
-    out_gone : (k : K) (xs : List X) → Sorted key before xs → kept key before k (without key before k xs) ≡ None
-    out_gone k [] s = refl
-    out_gone k (x ∷ xs) s =
-        cond_both (before (key x) k) _ _ (λ ys. kept key before k ys ≡ None)
-        (λ e. rw e (out_gone k xs s.1))
-        (λ e. cond_both (before k (key x)) _ _ (λ ys. kept key before k ys ≡ None)
-        (λ f. none_first k x xs f)
-        (λ f. none_behind k x xs s.0 (λ y g. ap (λ a. before a (key y)) (total _ _ f e) ∙ g)))
-
-    out_others : (k j : K) (xs : List X) → (j ≡ k → ⊥) → Sorted key before xs → kept key before j (without key before k xs) ≡ kept key before j xs
-    out_others k j [] n s = refl
-    out_others k j (x ∷ xs) n s =
-        cond_both (before (key x) k) _ _ (λ ys. kept key before j ys ≡ kept key before j (x ∷ xs))
-        (λ e. ap (λ o. cond (before (key x) j) o (cond (before j (key x)) None (Some x))) (out_others k j xs n s.1))
-        (λ e. cond_both (before k (key x)) _ _ (λ ys. kept key before j ys ≡ kept key before j (x ∷ xs))
-        (λ f. refl)
-        (λ f. let other : j ≡ key x → ⊥ = λ g. n (g ∙ sym (total _ _ f e)) in
-        sym (passed x j xs other ∙ cond_both (before (key x) j) _ _ (λ o. o ≡ kept key before j xs) (λ g. refl)
-        (λ g. sym (none_behind j x xs s.0 (λ y h. trans _ _ _ (ahead (key x) j other g) h))))))
-
+  module _ (trans : (a b c : K) → before a b ≡ true → before b c ≡ true → before a c ≡ true) where
     looked_is : (k : K) (xs : List X) → Sorted key before xs → looked key before k xs ≡ kept key before k xs
-    looked_is k xs s = ap (λ p. fronted key before k (drop p xs)) (place_is key before trans total k xs s) ∙ plain k xs
+    looked_is k xs s = ap (λ p. fronted key before k (drop p xs)) (place_is key before trans k xs s) ∙ plain k xs
 
-    pub laws : Laws key before
-    laws = record {
-      place_is = place_is key before trans total;
-      entered_is = entered_is key before trans total;
-      removed_is = removed_is key before trans total;
-      looked_is = looked_is;
-      entered_sorted = entered_sorted key before trans total;
-      removed_sorted = removed_sorted key before trans total;
-      entered_there = λ r xs s. looked_is (key r) (entered key before r xs) (entered_sorted key before trans total r xs s) ∙ ap (kept key before (key r)) (entered_is key before trans total r xs s) ∙ in_there r xs;
-      entered_others = λ r k xs n s. looked_is k (entered key before r xs) (entered_sorted key before trans total r xs s) ∙ ap (kept key before k) (entered_is key before trans total r xs s) ∙ in_others r k xs n ∙ sym (looked_is k xs s);
-      removed_gone = λ k xs s. looked_is k (removed key before k xs) (removed_sorted key before trans total k xs s) ∙ ap (kept key before k) (removed_is key before trans total k xs s) ∙ out_gone k xs s;
-      removed_others = λ k j xs n s. looked_is j (removed key before k xs) (removed_sorted key before trans total k xs s) ∙ ap (kept key before j) (removed_is key before trans total k xs s) ∙ out_others k j xs n s ∙ sym (looked_is j xs s);
-    }
+    -- what is found at a place, in plain words
+    found_is : (k : K) (xs : List X) (there : Bool) (at : ℕ) → Sorted key before xs → Found key before k xs there at → (at ≡ placed key before k xs) × (fronted key before k (drop at xs) ≡ kept key before k xs)
+    found_is k xs there at s f =
+        let place : at ≡ placed key before k xs = f.is ∙ place_is key before trans k xs s in
+        (place, ap (λ p. fronted key before k (drop p xs)) place ∙ plain k xs)
+
+    pub there_is : (k : K) (xs : List X) (at : ℕ) → Sorted key before xs → Found key before k xs true at → There key before k xs at
+    there_is k xs at s f = let p = found_is k xs true at s f in record { within = omega (arith, f.within); place = p.0; row = row_at k xs at f.held ∙ p.1 }
+
+    pub missing_is : (k : K) (xs : List X) (at : ℕ) → Sorted key before xs → Found key before k xs false at → Missing key before k xs at
+    missing_is k xs at s f = let p = found_is k xs false at s f in record { place = p.0; none = sym p.1 ∙ no_row k (drop at xs) f.held }
+
+    module _ (one : (a b : K) → ExactlyOne (before a b ≡ true) (a ≡ b) (before b a ≡ true)) where
+      pub laws : Laws key before
+      laws =
+          let law : RowLaws key before = rows.laws key before one trans in
+          let in_is : (r : X) (xs : List X) → Sorted key before xs → entered key before r xs ≡ inserted key before r xs = entered_is key before trans in
+          let out_is : (k : K) (xs : List X) → Sorted key before xs → removed key before k xs ≡ without key before k xs = removed_is key before trans in
+          let in_sorted : (r : X) (xs : List X) → Sorted key before xs → Sorted key before (entered key before r xs) = λ r xs s. subst (Sorted key before) (sym (in_is r xs s)) (law.inserted_sorted r xs s) in
+          let out_sorted : (k : K) (xs : List X) → Sorted key before xs → Sorted key before (removed key before k xs) = λ k xs s. subst (Sorted key before) (sym (out_is k xs s)) (law.without_sorted k xs s) in
+          record {
+            place_is = place_is key before trans;
+            entered_is = in_is;
+            removed_is = out_is;
+            looked_is = looked_is;
+            entered_sorted = in_sorted;
+            removed_sorted = out_sorted;
+            entered_there = λ r xs s. looked_is (key r) (entered key before r xs) (in_sorted r xs s) ∙ ap (kept key before (key r)) (in_is r xs s) ∙ law.inserted_there r xs;
+            entered_others = λ r k xs n s. looked_is k (entered key before r xs) (in_sorted r xs s) ∙ ap (kept key before k) (in_is r xs s) ∙ law.inserted_others r k xs n ∙ sym (looked_is k xs s);
+            removed_gone = λ k xs s. looked_is k (removed key before k xs) (out_sorted k xs s) ∙ ap (kept key before k) (out_is k xs s) ∙ law.without_gone k xs s;
+            removed_others = λ k j xs n s. looked_is j (removed key before k xs) (out_sorted k xs s) ∙ ap (kept key before j) (out_is k xs s) ∙ law.without_others k j xs n s ∙ sym (looked_is j xs s);
+          }

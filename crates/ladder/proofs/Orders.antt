@@ -1,9 +1,9 @@
--- What the laws of a rank give of rows in order.
-use Rattle.std.proofs.Common.{◌≡◌, ℕ, zero, suc, ◌-◌, ◌<◌, ◌≤◌, min, Bool, true, false, cond, List, [], ◌∷◌, ◌++◌, length, get_or, take, drop, sym, refl, ap, ◌∙◌, subst, ⊎_elim, arith}
+-- In rows in order the search ends at the plain place.
+use Rattle.std.proofs.Common.{◌≡◌, ℕ, zero, suc, ◌-◌, ◌<◌, ◌≤◌, min, Bool, true, false, cond, List, [], ◌∷◌, ◌++◌, length, get_or, take, drop, refl, ap, ◌∙◌, ⊎_elim, arith}
 use Rattle.std.proofs.lemmas.Bool.{cond_both, both_ways, cases_Bool, cases_lt}
 use Rattle.std.proofs.lemmas.List.{get_or_default, length-map}
 use Rattle.ladder.specs.Ladders.{flags, halved_place, last_before, hits, far_place, place, past, entered, removed}
-use Rattle.ladder.specs.Laws.{First, Sorted, placed, inserted, without}
+use Rattle.rank.specs.Rows.{Sorted, placed, inserted, without}
 use Rattle.ladder.proofs.Halves.{halved_is}
 
 module _ {X K : Type 0} (key : X → K) (before : K → K → Bool) where
@@ -35,17 +35,7 @@ module _ {X K : Type 0} (key : X → K) (before : K → K → Bool) where
       elim (before (key x) k) as (λ b. take (cond b (suc (placed key before k xs)) 0) (x ∷ xs) ++ past key before k (drop (cond b (suc (placed key before k xs)) 0) (x ∷ xs)) ≡ cond b (x ∷ without key before k xs) (cond (before k (key x)) (x ∷ xs) xs))
       [ true ↦ ap (λ t. x ∷ t) (plain_out k xs) | false ↦ refl ]
 
-  first_same : (r x : X) (xs : List X) → key r ≡ key x → First key before x xs → First key before r xs
-  first_same r x [] e f = tt
-  first_same r x (y ∷ ys) e f = rw e f
-
-  inserted_first : (y r : X) (xs : List X) → before (key y) (key r) ≡ true → First key before y xs → First key before y (inserted key before r xs)
-  inserted_first y r [] h f = h
-  inserted_first y r (x ∷ xs) h f =
-      cond_both (before (key x) (key r)) _ _ (First key before y) (λ e. f)
-      (λ e. cond_both (before (key r) (key x)) _ _ (First key before y) (λ e. h) (λ e. h))
-
-  module _ (trans : (a b c : K) → before a b ≡ true → before b c ≡ true → before a c ≡ true) (total : (a b : K) → before a b ≡ false → before b a ≡ false → a ≡ b) where
+  module _ (trans : (a b c : K) → before a b ≡ true → before b c ≡ true → before a c ≡ true) where
     none_later : (k : K) (x : X) (ys : List X) (j : ℕ) → Sorted key before (x ∷ ys) → before (key x) k ≡ false → get_or (flags key before k (x ∷ ys)) j false ≡ false
     none_later k x ys zero s e = e
     none_later k x [] (suc j) s e = refl
@@ -106,41 +96,8 @@ module _ {X K : Type 0} (key : X → K) (before : K → K → Bool) where
         (λ t. by_far k xs s)
         (λ f. omega (arith, hits_placed 8 k xs s, few k xs f))
 
-    inserted_sorted : (r : X) (xs : List X) → Sorted key before xs → Sorted key before (inserted key before r xs)
-    inserted_sorted r [] s = (tt, tt)
-    inserted_sorted r (x ∷ xs) s =
-        cond_both (before (key x) (key r)) _ _ (Sorted key before)
-        (λ e. (inserted_first x r xs e s.0, inserted_sorted r xs s.1))
-        (λ e. cond_both (before (key r) (key x)) _ _ (Sorted key before)
-        (λ f. (f, s))
-        (λ f. (first_same r x xs (total _ _ f e) s.0, s.1)))
-
-    first_later : (y x : X) (xs : List X) → before (key y) (key x) ≡ true → First key before x xs → First key before y xs
-    first_later y x [] f g = tt
-    first_later y x (z ∷ zs) f g = trans _ _ _ f g
-
-    without_first : (y : X) (k : K) (xs : List X) → Sorted key before xs → First key before y xs → First key before y (without key before k xs)
-    without_first y k [] s f = tt
-    without_first y k (x ∷ xs) s f =
-        cond_both (before (key x) k) _ _ (First key before y)
-        (λ e. f)
-        (λ e. cond_both (before k (key x)) _ _ (First key before y) (λ g. f) (λ g. first_later y x xs f s.0))
-
-    without_sorted : (k : K) (xs : List X) → Sorted key before xs → Sorted key before (without key before k xs)
-    without_sorted k [] s = tt
-    without_sorted k (x ∷ xs) s =
-        cond_both (before (key x) k) _ _ (Sorted key before)
-        (λ e. (without_first x k xs s.1 s.0, without_sorted k xs s.1))
-        (λ e. cond_both (before k (key x)) _ _ (Sorted key before) (λ f. s) (λ f. s.1))
-
     pub entered_is : (r : X) (xs : List X) → Sorted key before xs → entered key before r xs ≡ inserted key before r xs
     entered_is r xs s = ap (λ p. take p xs ++ r ∷ past key before (key r) (drop p xs)) (place_is (key r) xs s) ∙ plain_in r xs
 
     pub removed_is : (k : K) (xs : List X) → Sorted key before xs → removed key before k xs ≡ without key before k xs
     removed_is k xs s = ap (λ p. take p xs ++ past key before k (drop p xs)) (place_is k xs s) ∙ plain_out k xs
-
-    pub entered_sorted : (r : X) (xs : List X) → Sorted key before xs → Sorted key before (entered key before r xs)
-    entered_sorted r xs s = subst (Sorted key before) (sym (entered_is r xs s)) (inserted_sorted r xs s)
-
-    pub removed_sorted : (k : K) (xs : List X) → Sorted key before xs → Sorted key before (removed key before k xs)
-    removed_sorted k xs s = subst (Sorted key before) (sym (removed_is k xs s)) (without_sorted k xs s)

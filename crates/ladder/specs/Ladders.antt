@@ -1,6 +1,6 @@
 -- Ladders: rows that are looked up at the first ones, then at the last, then by halves. `key` gives a row's key, and `before` says which of two keys comes first.
 -- All of it is defined for any rows, in order or not.
-use Rattle.std.specs.Prelude.{◌≡◌, ℕ, zero, suc, ◌+◌, ◌-◌, ◌/◌, ◌<◌, ◌≤◌, Bool, true, false, cond, not, List, [], ◌∷◌, ◌++◌, map, length, take, drop, Some, None, Option, nat_lt, slice_index_or}
+use Rattle.std.specs.Prelude.{◌≡◌, ℕ, zero, suc, ◌+◌, ◌-◌, ◌/◌, ◌≤◌, Bool, true, false, cond, not, List, [], ◌∷◌, ◌++◌, map, length, take, drop, Some, None, Option, nat_lt, slice_index_or}
 
 -- the place between low and high where the flags turn from true to false, looked for by halves, in at most n looks
 abbrev pub halved : ℕ → List Bool → ℕ → ℕ → ℕ
@@ -70,13 +70,3 @@ pub record Found {X K : Type 0} (key : X → K) (before : K → K → Bool) (k :
   pub is : at ≡ place key before k xs
   pub held : held key before k (drop at xs) ≡ there
   pub removes : removed key before k xs ≡ cond there (take at xs ++ drop 1 (drop at xs)) xs
-
--- the first n of the rows are xs
-pub record Holds {X : Type 0} (rows : List X) (n : ℕ) (xs : List X) : Type 0 where
-  pub within : n ≤ length rows
-  pub is : take n rows ≡ xs
-
--- the first rows of a table become xs, and how many there are then is n; or xs does not fit, and the table is as it was
-abbrev pub Settled : {X : Type 0} → List X → List X → List X → Option ℕ → Type 0
-Settled old new xs None = (length old < length xs) × (new ≡ old)
-Settled old new xs (Some n) = Holds new n xs

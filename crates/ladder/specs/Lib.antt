@@ -1,2 +1,3 @@
 pub mod Ladders
+pub mod Tables
 pub mod Laws

@@ -4,68 +4,13 @@
 //! a struct of a `&mut` slice and a count, made for one call, leaves the checker without the tie between its fields and what was lent.
 #![tactic(auto)]
 
-ghost use Rattle.std.specs.Prelude.{◌≡◌, ◌<◌, ◌≤◌, Bool, true, false, ◌++◌, length, take, drop, MatchResult};
-ghost use Rattle.ladder.specs.Ladders.{place as place_of, far_place, halved_place, hits, flags, entered, removed, Found, Holds, Settled};
+ghost use Rattle.std.specs.Prelude.{◌≡◌, ◌<◌, ◌≤◌, true, false, ◌++◌, length, take, drop, MatchResult};
+ghost use Rattle.rank.specs.Rows.{Sorted, inserted, without};
+ghost use Rattle.ladder.specs.Ladders.{place as place_of, far_place, halved_place, hits, flags, entered, removed, Found};
+ghost use Rattle.ladder.specs.Tables.{Holds, Settled, There, Missing};
 ghost use Rattle.ladder.specs.Laws.{Laws};
 
-use std::marker::PhantomData;
-
-/// A kind of ladder: what its rows are, the key of each row, and which of two keys comes first.
-/// Of two keys exactly one of these holds: the first is before the second, they are equal, the second is before the first.
-// Kept as a trait beside `Ord`: the laws of `Ord` leave keys equal that are not the same key, and by `Reverse` the two sides of a book would have keys of two types.
-pub trait Rank {
-    type Row: Copy;
-
-    type Key: Copy;
-
-    /// The key of a row.
-    ghost keyed: { Self.Row → Self.Key };
-
-    /// Whether the first of two keys comes before the second.
-    ghost before: { Self.Key → Self.Key → Bool };
-
-    fn key(row: &Self::Row) -> Self::Key
-        ensures { result ≡ keyed row.now };
-
-    fn precedes(a: Self::Key, b: Self::Key) -> bool
-        ensures { result ≡ before a b };
-
-    ghost irreflexive: { (a : Self.Key) → before a a ≡ false };
-
-    ghost transitive: { (a b c : Self.Key) → before a b ≡ true → before b c ≡ true → before a c ≡ true };
-
-    ghost total: { (a b : Self.Key) → before a b ≡ false → before b a ≡ false → a ≡ b };
-}
-
-/// A rank turned round: of two keys the one comes first that `R` puts second.
-#[derive(Drop)]
-pub struct Backwards<R> {
-    rank: PhantomData<R>,
-}
-
-impl<R: Rank> Rank for Backwards<R> {
-    type Row = R::Row;
-
-    type Key = R::Key;
-
-    ghost keyed = { R.keyed };
-
-    ghost before = { λ a b. R.before b a };
-
-    ghost irreflexive = { R.irreflexive };
-
-    ghost transitive = { λ a b c p q. R.transitive c b a q p };
-
-    ghost total = { λ a b p q. R.total a b q p };
-
-    fn key(row: &R::Row) -> R::Key {
-        R::key(row)
-    }
-
-    fn precedes(a: R::Key, b: R::Key) -> bool {
-        R::precedes(b, a)
-    }
-}
+use rank::Rank;
 
 // The place of a key among the rows, looked for by halves.
 // Kept as a loop: `partition_point` says where the key belongs only in rows that are in order, and every lent table has its answer here.
@@ -136,7 +81,8 @@ fn counted<T>(rows: &[T], used: usize) -> usize
 
 /// Where the row with a key is among the first `used` rows, or else where one would be added.
 pub fn find<R: Rank>(rows: &[R::Row], used: usize, key: R::Key) -> Result<usize, usize>
-    ensures { MatchResult result (λ at. Found R.keyed R.before key (take used rows.now) true at) (λ at. Found R.keyed R.before key (take used rows.now) false at) }
+    ensures any { MatchResult result (λ at. Found R.keyed R.before key (take used rows.now) true at) (λ at. Found R.keyed R.before key (take used rows.now) false at) }
+    ensures ordered { Sorted R.keyed R.before (take used rows.now) → MatchResult result (There R.keyed R.before key (take used rows.now)) (Missing R.keyed R.before key (take used rows.now)) }
 {
     let rows = &rows[..counted(rows, used)];
     let at = place::<R>(rows, key);
@@ -182,11 +128,12 @@ fn insert<R: Rank>(rows: &mut [R::Row], used: usize, at: usize, row: R::Row) -> 
 }
 
 /// Puts a row in the place of the one with its key among the first `used` rows, or else adds it.
-/// Gives how many rows are used then, or `None`, with all as it was, where no place is free.
+/// Gives how many rows are used then, or `None`, with all as it was, where no place is free. What lies behind the used rows may change.
 // Kept inline: a call would write the row into memory field by field and read it back in one, which waits for the writes.
 #[inline(always)]
 pub fn enter<R: Rank>(rows: &mut [R::Row], used: usize, row: R::Row) -> Option<usize>
-    ensures { Settled rows.old rows.new (entered R.keyed R.before row (take used rows.old)) result }
+    ensures any { Settled rows.old rows.new (entered R.keyed R.before row (take used rows.old)) result }
+    ensures ordered { Sorted R.keyed R.before (take used rows.old) → Settled rows.old rows.new (inserted R.keyed R.before row (take used rows.old)) result }
 {
     match find::<R>(rows, used, R::key(&row)) {
         Ok(at) => Some(replace::<R>(rows, used, at, row)),
@@ -205,9 +152,10 @@ fn take_out<R: Rank>(rows: &mut [R::Row], used: usize, at: usize) -> usize
     count - 1
 }
 
-/// Takes the row with a key out of the first `used` rows, if there is one. Gives how many rows are used then.
+/// Takes the row with a key out of the first `used` rows, if there is one. Gives how many rows are used then. What lies behind them may change.
 pub fn remove<R: Rank>(rows: &mut [R::Row], used: usize, key: R::Key) -> usize
-    ensures { Holds rows.new result (removed R.keyed R.before key (take used rows.old)) }
+    ensures any { Holds rows.new result (removed R.keyed R.before key (take used rows.old)) }
+    ensures ordered { Sorted R.keyed R.before (take used rows.old) → Holds rows.new result (without R.keyed R.before key (take used rows.old)) }
 {
     match find::<R>(rows, used, key) {
         Ok(at) => take_out::<R>(rows, used, at),
@@ -216,7 +164,6 @@ pub fn remove<R: Rank>(rows: &mut [R::Row], used: usize, key: R::Key) -> usize
 }
 
 /// What holds of a ladder in order, for any rank: a theorem.
-#[tactic(auto, using(crate::proofs::Lookups::laws))]
 pub fn ordered<R: Rank>()
     ensures { Laws R.keyed R.before }
 {}

@@ -1,11 +1,24 @@
 -- What is kept of each key after a row is inserted or taken out.
-use Rattle.std.proofs.Common.{◌≡◌, Bool, true, false, cond, List, [], ◌∷◌, Some, None, sym, refl, ap, ◌∙◌, ⊎_elim}
+use Rattle.std.proofs.Common.{◌≡◌, ℕ, zero, suc, Bool, true, false, cond, List, [], ◌∷◌, set, Some, None, sym, refl, ap, ◌∙◌, ⊎_elim}
+use Rattle.std.specs.List.{slice_get}
 use Rattle.std.proofs.lemmas.Bool.{cond_both, cases_Bool}
 use Rattle.rank.specs.Keys.{ExactlyOne}
-use Rattle.rank.specs.Rows.{First, Sorted, inserted, without, kept}
+use Rattle.rank.specs.Rows.{First, Sorted, placed, inserted, without, kept}
 use Rattle.rank.specs.Laws.{RowLaws}
 use Rattle.rank.proofs.Keys.{irreflexive, not_back, total}
 use Rattle.rank.proofs.Orders.{inserted_sorted, without_sorted}
+
+none_some : {X : Type 0} (x : X) → None ≡ Some x → ⊥
+none_some x e = cc
+
+-- a row over the one with its key
+over : {X K : Type 0} (key : X → K) (before : K → K → Bool) (r : X) (xs : List X) → (kept key before (key r) xs ≡ None → ⊥) → set xs (placed key before (key r) xs) r ≡ inserted key before r xs
+over key before r [] n = absurd (n refl)
+over key before r (x ∷ xs) n =
+    elim (before (key x) (key r)) as (λ b. (cond b (kept key before (key r) xs) (cond (before (key r) (key x)) None (Some x)) ≡ None → ⊥) → set (x ∷ xs) (cond b (suc (placed key before (key r) xs)) 0) r ≡ cond b (x ∷ inserted key before r xs) (cond (before (key r) (key x)) (r ∷ (x ∷ xs)) (r ∷ xs))) [
+      | true ↦ λ n. ap (λ ys. x ∷ ys) (over key before r xs n)
+      | false ↦ elim (before (key r) (key x)) as (λ b. (cond b None (Some x) ≡ None → ⊥) → r ∷ xs ≡ cond b (r ∷ (x ∷ xs)) (r ∷ xs)) [ true ↦ λ n. absurd (n refl) | false ↦ λ n. refl ]
+    ] n
 
 module _ {X K : Type 0} (key : X → K) (before : K → K → Bool) (one : (a b : K) → ExactlyOne (before a b ≡ true) (a ≡ b) (before b a ≡ true))
     (trans : (a b c : K) → before a b ≡ true → before b c ≡ true → before a c ≡ true) where
@@ -66,6 +79,18 @@ module _ {X K : Type 0} (key : X → K) (before : K → K → Bool) (one : (a b 
       sym (passed x j xs other ∙ cond_both (before (key x) j) _ _ (λ o. o ≡ kept key before j xs) (λ g. refl)
       (λ g. sym (none_behind j x xs s.0 (λ y h. trans _ _ _ (ahead (key x) j other g) h))))))
 
+  -- in order, a row comes before all later ones
+  later : (y x : X) (ys : List X) (i : ℕ) → Sorted key before (y ∷ ys) → slice_get ys i ≡ Some x → before (key y) (key x) ≡ true
+  later y x [] i s e = absurd (none_some x e)
+  later y x (z ∷ zs) zero s e = let same : z ≡ x = cc in ap (λ r. before (key y) (key r)) (sym same) ∙ s.0
+  later y x (z ∷ zs) (suc i) s e = trans _ _ _ s.0 (later z x zs i s.1 e)
+
+  -- so behind as many as come before it stands the row of a key
+  at_place : (x : X) (i : ℕ) (xs : List X) → Sorted key before xs → slice_get xs i ≡ Some x → (i ≡ placed key before (key x) xs) × (kept key before (key x) xs ≡ Some x)
+  at_place x i [] s e = absurd (none_some x e)
+  at_place x zero (y ∷ ys) s e = let same : x ≡ y = cc in rw (same, irreflexive before one (key y)) (refl, refl)
+  at_place x (suc i) (y ∷ ys) s e = let h = at_place x i ys s.1 e in rw (later y x ys i s e) (ap suc h.0, h.1)
+
   pub laws : RowLaws key before
   laws = record {
     inserted_sorted = inserted_sorted key before one;
@@ -74,4 +99,6 @@ module _ {X K : Type 0} (key : X → K) (before : K → K → Bool) (one : (a b 
     inserted_others = in_others;
     without_gone = out_gone;
     without_others = out_others;
+    kept_at = at_place;
+    inserted_over = over key before;
   }

@@ -1,5 +1,6 @@
 use Rattle.std.proofs.Common.{◌+◌, take, set, sym, subst, arith}
-use Rattle.ladder.specs.Ladders.{Holds, entered}
+use Rattle.ladder.specs.Ladders.{entered}
+use Rattle.ladder.specs.Tables.{Holds}
 use Rattle.ladder.proofs.Edits.{inserts}
 use Rattle.ladder.proofs.insert.Goals as goal
 

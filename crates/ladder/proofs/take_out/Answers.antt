@@ -1,5 +1,5 @@
 use Rattle.std.proofs.Common.{◌-◌, ◌++◌, take, drop, sym, subst}
-use Rattle.ladder.specs.Ladders.{Holds}
+use Rattle.ladder.specs.Tables.{Holds}
 use Rattle.ladder.proofs.Edits.{takes_out}
 use Rattle.ladder.proofs.take_out.Goals as goal
 
