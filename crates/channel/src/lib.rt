@@ -17,7 +17,6 @@ mod steps;
 pub use channel::Channel;
 pub use claim::Claim;
 pub use handover::{ChannelFault, OfferFault, Taken};
-pub use order::{books_stand, keepers_move, last_stands, order_stands, taken_once, waiting_rises};
 
 /// A channel that follows a history follows the longer one after any call, taken or refused, and a making that is taken begins one: a theorem,
 /// for every sink and whatever the shelf means.

@@ -231,7 +231,8 @@ impl<S: Sink, H: Shelf> Handover<S, H> {
         self.last = number.saturating_sub(1);
     }
 
-    /// Offers a packet: it is handed over, with what is held behind it, or kept on the shelf, or refused.
+    /// Offers a packet: it is handed over, with what is held behind it, or kept on the shelf, or refused. A refused one changes nothing, and leaves the scratch
+    /// buffer as it was, which has at least 1,500 bytes.
     #[tactic(auto, using(crate::proofs::Grows::takes_grow))]
     pub fn offer(&mut self, packet: &[u8], scratch: &mut [u8]) -> Result<Taken, OfferFault>
         ensures answer { result ≡ flow_answer S.Sink.step (flow (S.Sink) (H.Shelf) self.old scratch.old) packet.now }
