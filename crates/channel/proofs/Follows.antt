@@ -3,13 +3,16 @@ use Rattle.std.proofs.Common.{◌≡◌, ℕ, ◌+◌, ◌≤◌, true, false, L
 use Rattle.wire.specs.Reading.{Pkt}
 use Rattle.sink.specs.Events.{Event}
 use Rattle.handover.specs.declared.fault.ChannelFault.{ChannelFault}
+use Rattle.handover.specs.declared.fault.ChannelFault.TheVariants.{Phase}
 use Rattle.handover.specs.declared.fault.OfferFault.{OfferFault}
+use Rattle.handover.specs.declared.fault.OfferFault.TheVariants.{Channel}
 use Rattle.channel.specs.declared.claim.Claim.{Claim}
 use Rattle.order.specs.Machine.{Call, made, offered, claimed, settled, restarted, History, nothing, brought, content, read_content, begins, took, deed, does, machine}
 use Rattle.order.specs.Promise.{Allowed, Making, Earned}
-use Rattle.handover.specs.Words.{on_ok, answer}
-use Rattle.channel.specs.States.{Opened, State, last_of, back}
-use Rattle.channel.specs.Offers.{Flow, offer_verdict, grown, flowed, offer_flow}
+use Rattle.handover.specs.Words.{either, on_ok, answer}
+use Rattle.handover.specs.Flows.{Flow, takes}
+use Rattle.handover.specs.Offers.{verdict, grown, flow_answer, flow_after}
+use Rattle.channel.specs.States.{Opened, State, last_of, flow_in, left_by, back}
 use Rattle.channel.specs.Calls.{make_answer, make_after, begun_at, restart_verdict, claim_verdict, reclaimed, settle_verdict, missing_of}
 use Rattle.order.specs.Machine.{led}
 use Rattle.channel.specs.Follows.{Waits, Follows, Ask, make, offer, claim, settle, restart, noted, taken, after}
@@ -53,20 +56,20 @@ module _ {M : Type 0} (step : Event → M → M) (before : M) where
         earned = earned_more call h nm f.earned (subst (λ x. Allowed x (machine h).last (machine h).waiting) (sym e) l);
       }
 
-  -- an offer that is taken
-  pub offer_took : (h : History) (c : State M) (p b : List ℕ) (v : Opened × Pkt) → Passed c p v → Follows step before h c
-      → Follows step before (offered p true ∷ h) (flowed c v.0 (offer_flow step c p b v))
-  offer_took h c p b v ok f =
+  -- an offer to an open channel that is taken
+  pub offer_took : (h : History) (c : State M) (o : Opened) (p b : List ℕ) (q : Pkt) → c.opened ≡ Some o → Passed (flow_in c o b) p q → Follows step before h c
+      → Follows step before (offered p true ∷ h) (left_by o (takes step (brought q) p (flow_in c o b)))
+  offer_took h c o p b q opened ok f =
       let s = machine h in
-      let l : v.0.last ≡ s.last = some_same v.0.last s.last (sym (ap last_of ok.opened) ∙ f.last) in
-      let e : content p ≡ brought v.1 = ap read_content ok.read in
-      let a : Allowed (took (brought v.1)) s.last s.waiting =
-      subst (λ n. Allowed (took (brought v.1)) n s.waiting) l (packet_allowed v.0.last c.shelf p s.waiting f.waits v.1 ok.clear) in
-      let flow : Flow M = record { last = v.0.last; held = c.shelf.held; sink = c.sink; scratch = b } in
-      let like = like_takes step before (brought v.1) p flow s (record { last = l; sink = f.sink; waits = f.waits; rises = waiting_rises h })
+      let l : o.last ≡ s.last = some_same o.last s.last (sym (ap last_of opened) ∙ f.last) in
+      let e : content p ≡ brought q = ap read_content ok.read in
+      let a : Allowed (took (brought q)) s.last s.waiting =
+      subst (λ n. Allowed (took (brought q)) n s.waiting) l (packet_allowed o.last c.shelf p s.waiting f.waits q ok.clear) in
+      let flow : Flow M = flow_in c o b in
+      let like = like_takes step before (brought q) p flow s (record { last = l; sink = f.sink; waits = f.waits; rises = waiting_rises h })
       a (stands h f.earned).rest e in
-      let there : Like step before (offer_flow step c p b v) (machine (offered p true ∷ h)) =
-      subst (λ x. Like step before (offer_flow step c p b v) (does (took x) s)) (sym e) like in
+      let there : Like step before (takes step (brought q) p flow) (machine (offered p true ∷ h)) =
+      subst (λ x. Like step before (takes step (brought q) p flow) (does (took x) s)) (sym e) like in
       record {
         last = ap (λ n. Some n) there.last;
         sink = there.sink;
@@ -74,15 +77,25 @@ module _ {M : Type 0} (step : Event → M → M) (before : M) where
         earned = earned_more (offered p true) h (λ x. x) f.earned (subst (λ x. Allowed (took x) s.last s.waiting) (sym e) a);
       }
 
+  offer_open : (h : History) (c : State M) (o : Opened) (p b : List ℕ) → c.opened ≡ Some o → Follows step before h c
+      → Follows step before (offered p (is_ok (flow_answer step (flow_in c o b) p)) ∷ h) (left_by o (flow_after step (flow_in c o b) p))
+  offer_open h c o p b opened f = go (verdict (flow_in c o b) p) refl
+    where
+      go : (r : Result Pkt OfferFault) → verdict (flow_in c o b) p ≡ r
+          → Follows step before (offered p (is_ok (answer r (λ q. grown o.last (takes step (brought q) p (flow_in c o b))))) ∷ h)
+          (left_by o (on_ok r (λ q. takes step (brought q) p (flow_in c o b)) (flow_in c o b)))
+      go (Ok q) e = offer_took h c o p b q opened (offer_passed (flow_in c o b) p q e) f
+      go (Err x) e = still h c (left_by o (flow_in c o b)) (offered p false) (λ x. x) refl (sym (ap last_of opened)) refl refl f
+
   offer_follows : (h : History) (c : State M) (p b : List ℕ) → Follows step before h c
       → Follows step before (noted (offer p b) (taken step (offer p b) c) ∷ h) (after step (offer p b) c)
-  offer_follows h c p b f = go (offer_verdict c p b) refl
+  offer_follows h c p b f = go c.opened refl
     where
-      go : (r : Result (Opened × Pkt) OfferFault) → offer_verdict c p b ≡ r
-          → Follows step before (offered p (is_ok (answer r (λ v. grown v.0 (offer_flow step c p b v)))) ∷ h)
-          (on_ok r (λ v. flowed c v.0 (offer_flow step c p b v)) c)
-      go (Ok v) e = offer_took h c p b v (offer_passed c p b v e) f
-      go (Err x) e = still h c c (offered p false) (λ x. x) refl refl refl refl f
+      go : (x : Option Opened) → c.opened ≡ x
+          → Follows step before (offered p (is_ok (either x (Err (Channel Phase)) (λ o. flow_answer step (flow_in c o b) p))) ∷ h)
+          (either x c (λ o. left_by o (flow_after step (flow_in c o b) p)))
+      go None e = still h c c (offered p false) (λ x. x) refl refl refl refl f
+      go (Some o) e = offer_open h c o p b e f
 
   restart_follows : (h : History) (c : State M) (n : ℕ) → Follows step before h c
       → Follows step before (noted (restart n) (taken step (restart n) c) ∷ h) (after step (restart n) c)

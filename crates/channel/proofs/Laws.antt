@@ -1,23 +1,28 @@
 -- Counts, claims and source ids.
-use Rattle.std.proofs.Common.{◌≡◌, ℕ, zero, suc, ◌+◌, ◌-◌, ◌<◌, ◌≤◌, min, true, ◌&&◌, leb, List, ◌∷◌, length, Some, None, Ok, Err, Option, Result, sym, refl, ap, ◌∙◌, subst, ⊎_elim, arith, MatchOption}
-use Rattle.std.proofs.lemmas.Bool.{cond_both, cond-true, and_from, le-leb, both_ways, cases_Bool}
+use Rattle.std.proofs.Common.{◌≡◌, ℕ, zero, suc, ◌+◌, ◌-◌, min, ◌≤◌, true, List, ◌∷◌, ◌++◌, length, drop, Some, None, Ok, Err, Option, Result, sym, refl, ap, ◌∙◌, subst, arith}
+use Rattle.std.proofs.lemmas.Bool.{cond_both}
+use Rattle.wire.specs.declared.request.TheConstants.{REQUEST}
 use Rattle.wire.specs.Reading.{Msg, Pkt}
-use Rattle.wire.specs.Request.{source_right, request_after}
-use Rattle.shelf.specs.Store.{has, Lawful}
-use Rattle.shelf.proofs.Kept.{held_is_a_map}
+use Rattle.wire.specs.Request.{source_right, request}
+use Rattle.shelf.specs.Store.{Lawful}
 use Rattle.sink.specs.Events.{Event}
 use Rattle.handover.specs.declared.fault.ChannelFault.{ChannelFault}
+use Rattle.handover.specs.declared.fault.ChannelFault.TheVariants.{Phase}
 use Rattle.handover.specs.declared.fault.OfferFault.{OfferFault}
+use Rattle.handover.specs.declared.fault.OfferFault.TheVariants.{Channel}
+use Rattle.channel.specs.declared.gaps.TheConstants.{MOST_ASKED}
 use Rattle.channel.specs.declared.claim.Claim.{Claim}
 use Rattle.handover.specs.declared.handover.Taken.{Taken}
-use Rattle.order.specs.Machine.{offered, Content, carries, declares, renews, nothing, content, took, Standing, turn, pass, passes, drain, joins, does, machine}
+use Rattle.order.specs.Machine.{History, offered, Content, carries, declares, renews, nothing, brought, content, took, Standing, turn, pass, passes, drain, joins, does, machine}
 use Rattle.order.specs.Maps as waiting
-use Rattle.handover.specs.Words.{on_ok, answer}
-use Rattle.channel.specs.States.{Opened, State, last_of}
-use Rattle.channel.specs.Offers.{offer_verdict, offer_flow, grown, flowed}
-use Rattle.channel.specs.Calls.{make_answer, begun_at, restart_verdict, claim_verdict, reclaimed, settle_verdict}
-use Rattle.channel.specs.Follows.{make, offer, claim, settle, restart}
-use Rattle.channel.specs.Laws.{turns, SourceRight, Asks, Counts, SourcesStay, ClaimsAsk}
+use Rattle.handover.specs.Words.{either, on_ok, answer}
+use Rattle.handover.specs.Flows.{takes}
+use Rattle.handover.specs.Offers.{verdict, grown, flow_answer, flow_after}
+use Rattle.handover.proofs.Flows.{gap_found}
+use Rattle.channel.specs.States.{Opened, State, last_of, flow_in, left_by}
+use Rattle.channel.specs.Calls.{make_answer, begun_at, restart_verdict, claim_verdict, claim_answer, reclaimed, settle_verdict}
+use Rattle.channel.specs.Follows.{Follows, make, offer, claim, settle, restart}
+use Rattle.channel.specs.Laws.{turns, SourceRight, Asks, GivenAsks, Counts, SourcesStay}
 use Rattle.order.proofs.Plain.{never, some_same}
 use Rattle.channel.proofs.Follows.{offer_took}
 use Rattle.channel.proofs.Verdicts.{offer_passed, restart_found, claim_found, settle_opened, make_found}
@@ -68,24 +73,34 @@ turned_takes (renews n m) s = record { grows = omega arith; counts = refl }
 turned_takes nothing s = turned_none s
 
 module _ {M : Type 0} (step : Event → M → M) where
-  pub counts : Counts step
-  counts before h c p b t f ok = go (offer_verdict c p b) refl ok
+  counts_open : (before : M) (h : History) (c : State M) (o : Opened) (p b : List ℕ) (t : Taken) → c.opened ≡ Some o → Follows step before h c
+      → flow_answer step (flow_in c o b) p ≡ Ok t
+      → (last_of (left_by o (flow_after step (flow_in c o b) p)).opened ≡ Some t.last) × (turns (machine (offered p true ∷ h)).order ≡ turns (machine h).order + t.handed)
+  counts_open before h c o p b t is f ok = go (verdict (flow_in c o b) p) refl ok
     where
-      go : (r : Result (Opened × Pkt) OfferFault) → offer_verdict c p b ≡ r → answer r (λ v. grown v.0 (offer_flow step c p b v)) ≡ Ok t
-          → (last_of (on_ok r (λ v. flowed c v.0 (offer_flow step c p b v)) c).opened ≡ Some t.last)
+      go : (r : Result Pkt OfferFault) → verdict (flow_in c o b) p ≡ r → answer r (λ q. grown o.last (takes step (brought q) p (flow_in c o b))) ≡ Ok t
+          → (last_of (left_by o (on_ok r (λ q. takes step (brought q) p (flow_in c o b)) (flow_in c o b))).opened ≡ Some t.last)
           × (turns (machine (offered p true ∷ h)).order ≡ turns (machine h).order + t.handed)
-      go (Ok v) e ok =
-          let passed = offer_passed c p b v e in
-          let g = offer_flow step c p b v in
-          let same : grown v.0 g ≡ t = cc in
-          let there : g.last ≡ (machine (offered p true ∷ h)).last = some_same _ _ (offer_took step before h c p b v passed f).last in
-          let here : v.0.last ≡ (machine h).last = some_same _ _ (sym (ap last_of passed.opened) ∙ f.last) in
-          let n : g.last - v.0.last ≡ t.handed = ap (λ (x : Taken). x.handed) same in
+      go (Ok q) e ok =
+          let g = takes step (brought q) p (flow_in c o b) in
+          let same : grown o.last g ≡ t = cc in
+          let there : g.last ≡ (machine (offered p true ∷ h)).last = some_same _ _ (offer_took step before h c o p b q is (offer_passed (flow_in c o b) p q e) f).last in
+          let here : o.last ≡ (machine h).last = some_same _ _ (sym (ap last_of is) ∙ f.last) in
+          let n : g.last - o.last ≡ t.handed = ap (λ (x : Taken). x.handed) same in
           let r = turned_takes (content p) (machine h) in
           let x = r.grows in
           let y = r.counts in
           (ap (λ (x : Taken). Some x.last) same, omega arith)
       go (Err x) e ok = absurd (never (cc))
+
+  pub counts : Counts step
+  counts before h c p b t f ok = go c.opened refl ok
+    where
+      go : (x : Option Opened) → c.opened ≡ x → either x (Err (Channel Phase)) (λ o. flow_answer step (flow_in c o b) p) ≡ Ok t
+          → (last_of (either x c (λ o. left_by o (flow_after step (flow_in c o b) p))).opened ≡ Some t.last)
+          × (turns (machine (offered p true ∷ h)).order ≡ turns (machine h).order + t.handed)
+      go None e ok = absurd (never (cc))
+      go (Some o) e ok = counts_open before h c o p b t e f ok
 
   -- a channel with the source id of an open one
   kept_source : (c : State M) (o u : Opened) → c.opened ≡ Some o → u.source ≡ o.source → SourceRight c → (x : Opened) → ◌≡◌ {A = Option Opened} (Some u) (Some x) → source_right x.source ≡ true
@@ -98,11 +113,11 @@ module _ {M : Type 0} (step : Event → M → M) where
           → SourceRight (on_ok r (λ u. begun_at step first (record { number = number; source = source; last = 0; out = None; claims = 0 }) c) c)
       go (Ok u) e = λ x is. ap (λ (y : Opened). source_right y.source) (sym (some_same _ x is)) ∙ (make_found c source first u e).named
       go (Err x) e = right
-  sources_stay c (offer p b) right = go (offer_verdict c p b) refl
+  sources_stay c (offer p b) right = go c.opened refl
     where
-      go : (r : Result (Opened × Pkt) OfferFault) → offer_verdict c p b ≡ r → SourceRight (on_ok r (λ v. flowed c v.0 (offer_flow step c p b v)) c)
-      go (Ok v) e = kept_source c v.0 _ (offer_passed c p b v e).opened refl right
-      go (Err x) e = right
+      go : (x : Option Opened) → c.opened ≡ x → SourceRight (either x c (λ o. left_by o (flow_after step (flow_in c o b) p)))
+      go None e = right
+      go (Some o) e = kept_source c o _ e refl right
   sources_stay c (claim time b) right = go (claim_verdict c b) refl
     where
       go : (r : Result (Opened × Claim) ChannelFault) → claim_verdict c b ≡ r → SourceRight (on_ok r (λ v. reclaimed c (Some v.1) (v.0.claims + 1) v.0) c)
@@ -119,38 +134,37 @@ module _ {M : Type 0} (step : Event → M → M) where
       go (Ok o) e = kept_source c o _ (restart_found c n o e).opened refl right
       go (Err x) e = right
 
-  -- the claim that was found
-  found_asks : (c : State M) (time : ℕ) (b : List ℕ) (v : Opened × Claim) → Lawful c.shelf → SourceRight c → claim_verdict c b ≡ Ok v → Asks c v.0 time b v.1
-  found_asks c time b v lawful right e =
-      let found = claim_found c b v e in
-      let h = c.shelf.held in
-      let l = v.0.last in
-      let m = found.least in
-      let least = subst (λ o. MatchOption o ((j : ℕ) → has h j ≡ true → j ≤ l) (λ m. (l < m) × (has h m ≡ true) × ((j : ℕ) → l < j → has h j ≡ true → m ≤ j)))
-      found.above ((held_is_a_map h lawful.up).least l) in
-      let over : l < m = least.0 in
-      let gap : m ≡ l + 1 → ⊥ = λ q. both_ways (has h m) (ap (has h) q ∙ found.next) least.1 in
-      let begin : v.1.begin ≡ l + 1 = ap (λ (k : Claim). k.begin) found.claim in
-      let end : v.1.end ≡ min (m - 1) (l + 1000) = ap (λ (k : Claim). k.end) found.claim in
-      record {
-        number = ap (λ (k : Claim). k.channel) found.claim;
-        serial = ap (λ (k : Claim). k.serial) found.claim;
-        begins = begin;
-        some = omega arith;
-        few = omega arith;
-        missing = λ n x y. ⊎_elim (λ t. absurd (let z = least.2 n (omega arith) t in omega arith)) (λ t. t) (cases_Bool (has h n));
-        request =
-            ap (λ r. on_ok r (λ w. request_after b time w.1.begin w.1.end w.0.source) b) e
-            ∙ cond-true (leb 44 (length b) && source_right v.0.source) _ _
-            (and_from (leb 44 (length b)) (source_right v.0.source) (le-leb 44 (length b) found.room) (right v.0 found.opened));
-      }
+-- the claim that was found
+found_asks : {M : Type 0} (c : State M) (time : ℕ) (b : List ℕ) (v : Opened × Claim) → Lawful c.shelf → claim_verdict c b ≡ Ok v → Asks c v.0 time b v.1
+found_asks c time b v lawful e =
+    let found = claim_found c b v e in
+    let h = c.shelf.held in
+    let l = v.0.last in
+    let m = found.least in
+    let gap = gap_found l h m lawful.up (sym found.gap) in
+    let begin : v.1.begin ≡ l + 1 = ap (λ (k : Claim). k.begin) found.claim in
+    let end : v.1.end ≡ min (m - 1) (l + MOST_ASKED) = ap (λ (k : Claim). k.end) found.claim in
+    let over = gap.past in
+    record {
+      number = ap (λ (k : Claim). k.channel) found.claim;
+      serial = ap (λ (k : Claim). k.serial) found.claim;
+      begins = begin;
+      some = omega arith;
+      few = omega arith;
+      missing = λ n x y. gap.missing n (omega arith) (omega arith);
+      request = ap (λ r. on_ok r (λ w. request time w.1.begin w.1.end w.0.source ++ drop REQUEST b) b) e;
+    }
 
-  pub claims_ask : ClaimsAsk step
-  claims_ask c o time b k lawful right is ok = go (claim_verdict c b) refl ok
-    where
-      go : (r : Result (Opened × Claim) ChannelFault) → claim_verdict c b ≡ r → answer r (λ v. v.1) ≡ Ok k → Asks c o time b k
-      go (Ok v) e ok =
-          let same : v.1 ≡ k = cc in
-          let here : v.0 ≡ o = some_same v.0 o (sym (claim_found c b v e).opened ∙ is) in
-          subst (λ x. Asks c o time b x) same (subst (λ x. Asks c x time b v.1) here (found_asks c time b v lawful right e))
-      go (Err x) e ok = absurd (never (cc))
+pub claims_ask : {M : Type 0} (c : State M) (time : ℕ) (b : List ℕ) → Lawful c.shelf → GivenAsks c time b (claim_answer c b)
+claims_ask c time b lawful o k is ok = go (claim_verdict c b) refl ok
+  where
+    go : (r : Result (Opened × Claim) ChannelFault) → claim_verdict c b ≡ r → answer r (λ v. v.1) ≡ Ok k → Asks c o time b k
+    go (Ok v) e ok =
+        let same : v.1 ≡ k = cc in
+        let here : v.0 ≡ o = some_same v.0 o (sym (claim_found c b v e).opened ∙ is) in
+        subst (λ x. Asks c o time b x) same (subst (λ x. Asks c x time b v.1) here (found_asks c time b v lawful e))
+    go (Err x) e ok = absurd (never (cc))
+
+-- what is answered, as the claim of a call was
+pub given_asks : {M : Type 0} (c : State M) (time : ℕ) (b : List ℕ) (r : Result Claim ChannelFault) → Lawful c.shelf → r ≡ claim_answer c b → GivenAsks c time b r
+given_asks c time b r lawful is o k opened ok = claims_ask c time b lawful o k opened (sym is ∙ ok)

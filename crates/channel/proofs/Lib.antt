@@ -1,4 +1,3 @@
-pub mod Offers
 pub mod Claims
 pub mod Shelved
 pub mod Turns
@@ -6,7 +5,4 @@ pub mod Verdicts
 pub mod Follows
 pub mod Kept
 pub mod Runs
-pub mod Table
-pub mod Sample
 pub mod Laws
-pub mod Cases

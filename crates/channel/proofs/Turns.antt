@@ -7,8 +7,7 @@ use Rattle.sink.specs.Events.{Event, data_of}
 use Rattle.order.specs.Maps.{lookup, has, remove, Rising}
 use Rattle.order.specs.Machine.{Content, carries, declares, renews, nothing, content, took, Standing, turn, pass, passes, drain, drained, joins, does}
 use Rattle.order.specs.Promise.{Allowed}
-use Rattle.handover.specs.Flows.{data_as, message_of}
-use Rattle.channel.specs.Offers.{Flow, hand, hands, handing, handed_on, hand_data, keep, takes}
+use Rattle.handover.specs.Flows.{Flow, data_as, message_of, hand, hands, handing, handed_on, hand_data, keep, takes}
 use Rattle.order.specs.Machine.{led}
 use Rattle.channel.specs.Follows.{Waits}
 use Rattle.order.proofs.Maps.{none_left, length_removed, lookup_inserted, lookup_insert, remove_inserted}
@@ -56,7 +55,7 @@ early_joins n m s ne rest = drained_rest (joins n m s) (ap is_some (lookup_inser
 pub record Like {M : Type 0} (step : Event → M → M) (before : M) (f : Flow M) (s : Standing) : Type 0 where
   pub last : f.last ≡ s.last
   pub sink : f.sink ≡ led step s.order before
-  pub waits : Waits f.held s.waiting
+  pub waits : Waits f.shelf.held s.waiting
   pub rises : Rising s.waiting
 
 module _ {M : Type 0} (step : Event → M → M) (before : M) where
@@ -67,10 +66,10 @@ module _ {M : Type 0} (step : Event → M → M) (before : M) where
       record {
         last = e;
         sink =
-            ap (λ k. step (turn k (message_of (on_shelf.lookup f.held k))) f.sink) e
-            ∙ ap (λ o. step (turn n o) f.sink) (waits_lookup n f.held s.waiting a.waits)
+            ap (λ k. step (turn k (message_of (on_shelf.lookup f.shelf.held k))) f.sink) e
+            ∙ ap (λ o. step (turn n o) f.sink) (waits_lookup n f.shelf.held s.waiting a.waits)
             ∙ ap (step (turn n (lookup n s.waiting))) a.sink;
-        waits = subst (λ k. Waits (on_shelf.remove k f.held) (remove n s.waiting)) (sym e) (waits_remove n f.held s.waiting a.waits a.rises);
+        waits = subst (λ k. Waits (on_shelf.remove k f.shelf.held) (remove n s.waiting)) (sym e) (waits_remove n f.shelf.held s.waiting a.waits a.rises);
         rises = rising_remove n s.waiting a.rises;
       }
 
@@ -83,7 +82,7 @@ module _ {M : Type 0} (step : Event → M → M) (before : M) where
   like_handing (suc k) f s a =
       let e : f.last + 1 ≡ s.last + 1 = ap (λ j. j + 1) a.last in
       subst (λ b. Like step before (cond b (handing step k (hand step f)) f) (drain (suc k) s))
-      (sym (ap (on_shelf.has f.held) e ∙ waits_has (s.last + 1) f.held s.waiting a.waits))
+      (sym (ap (on_shelf.has f.shelf.held) e ∙ waits_has (s.last + 1) f.shelf.held s.waiting a.waits))
       (go (has (s.last + 1) s.waiting) (like_handing k (hand step f) (pass s) (like_hand f s a)))
     where
       go : (b : Bool) → Like step before (handing step k (hand step f)) (drain k (pass s))
@@ -93,7 +92,7 @@ module _ {M : Type 0} (step : Event → M → M) (before : M) where
 
   like_handed_on : (f : Flow M) (s : Standing) → Like step before f s → Like step before (handed_on step f) (drained s)
   like_handed_on f s a =
-      subst (λ k. Like step before (handing step k f) (drained s)) (sym (waits_length f.held s.waiting a.waits)) (like_handing (length s.waiting) f s a)
+      subst (λ k. Like step before (handing step k f) (drained s)) (sym (waits_length f.shelf.held s.waiting a.waits)) (like_handing (length s.waiting) f s a)
 
   like_next : (n : ℕ) (m : Msg) (f : Flow M) (s : Standing) → Like step before f s → n ≡ s.last + 1
       → Like step before (hand_data step n m f) (record { last = s.last + 1; waiting = s.waiting; order = data_of (s.last + 1) m ∷ s.order })
@@ -119,7 +118,7 @@ module _ {M : Type 0} (step : Event → M → M) (before : M) where
       (record {
         last = a.last;
         sink = a.sink;
-        waits = waits_insert n p m f.held s.waiting a.waits free read;
+        waits = waits_insert n p m f.shelf.held s.waiting a.waits free read;
         rises = rising_insert n m s.waiting a.rises;
       }))
 

@@ -1,14 +1,17 @@
 -- Making, claim, settlement and restart: the answer of each, and what it leaves.
-use Rattle.std.specs.Prelude.{ℕ, ◌+◌, ◌-◌, min, Bool, cond, ◌&&◌, List, [], length, is_some, Some, None, Ok, Err, Option, Result, ◌==◌, nat_le, nat_lt}
-use Rattle.wire.specs.Request.{source_right, request_after}
-use Rattle.shelf.specs.Store.{Packets, has, above, with_held}
-use Rattle.sink.specs.Events.{Event, restart_of}
+use Rattle.std.specs.Prelude.{ℕ, ◌+◌, ◌-◌, min, Bool, cond, ◌&&◌, List, [], ◌++◌, length, drop, is_some, Some, None, Ok, Err, Option, Result, ◌==◌, nat_le, nat_lt}
+use Rattle.wire.specs.declared.request.TheConstants.{REQUEST}
+use Rattle.wire.specs.Request.{source_right, request}
+use Rattle.shelf.specs.Store.{Packets}
+use Rattle.sink.specs.Events.{Event}
 use Rattle.handover.specs.declared.fault.ChannelFault.{ChannelFault}
 use Rattle.handover.specs.declared.fault.ChannelFault.TheVariants.{Short, Owed, Whole, Spent, Other, Zero, Source, Phase}
-use Rattle.channel.specs.declared.claim.Claim.{Claim}
 use Rattle.handover.specs.Words.{either, on_ok, answer}
-use Rattle.handover.specs.Flows.{missing}
-use Rattle.channel.specs.States.{Opened, State, at_last, back}
+use Rattle.handover.specs.Flows.{gap, missing, begins_at}
+use Rattle.channel.specs.declared.channel.TheConstants.{MOST_CLAIMS}
+use Rattle.channel.specs.declared.gaps.TheConstants.{MOST_ASKED}
+use Rattle.channel.specs.declared.claim.Claim.{Claim}
+use Rattle.channel.specs.States.{Opened, State, flow_in, left_by, back}
 
 -- A making is refused where the channel is open, for a first number of zero, and for a wrong source id.
 abbrev pub make_answer : {M : Type 0} → State M → List ℕ → ℕ → Result (Unit {0}) ChannelFault
@@ -17,9 +20,9 @@ make_answer c source first =
     (cond (first == 0) (Err Zero)
     (cond (source_right source) (Ok tt) (Err Source)))
 
--- the shelf cleared, the sink told of the restart, and last the number less one
+-- an open channel that begins at a number; no scratch buffer has a part in it
 abbrev pub begun_at : {M : Type 0} → (Event → M → M) → ℕ → Opened → State M → State M
-begun_at step n o c = record { opened = Some (at_last (n - 1) o); shelf = with_held c.shelf []; sink = step (restart_of n) c.sink }
+begun_at step n o c = left_by o (begins_at step n (flow_in c o []))
 
 -- the channel after a making; a refused one leaves it as it was
 abbrev pub make_after : {M : Type 0} → (Event → M → M) → State M → ℕ → List ℕ → ℕ → State M
@@ -41,20 +44,19 @@ restart_answer c n = answer (restart_verdict c n) (λ o. tt)
 abbrev pub restart_after : {M : Type 0} → (Event → M → M) → State M → ℕ → State M
 restart_after step c n = on_ok (restart_verdict c n) (λ o. begun_at step n o c) c
 
--- the claim of the gap below the least number held above last: at most 1,000 numbers
+-- the claim of the gap below the least number held above last: at most so many numbers
 abbrev pub claim_of : Opened → ℕ → Claim
-claim_of o least = record { channel = o.number; serial = o.claims + 1; begin = o.last + 1; end = min (least - 1) (o.last + 1000) }
+claim_of o least = record { channel = o.number; serial = o.claims + 1; begin = o.last + 1; end = min (least - 1) (o.last + MOST_ASKED) }
 
--- A claim is refused where the channel is closed, for a short buffer, where one is out, where there is no gap, and after 500 claims.
+-- A claim is refused where the channel is closed, for a short buffer, where one is out, where there is no gap, and where so many were made.
 abbrev pub claim_verdict : {M : Type 0} → State M → List ℕ → Result (Opened × Claim) ChannelFault
 claim_verdict c buffer =
     either c.opened (Err Phase) (λ o.
-    cond (nat_lt (length buffer) 44) (Err Short)
+    cond (nat_lt (length buffer) REQUEST) (Err Short)
     (cond (is_some o.out) (Err Owed)
-    (cond (has c.shelf.held (o.last + 1)) (Err Whole)
-    (either (above c.shelf.held o.last) (Err Whole) (λ least.
-    cond (nat_le 500 o.claims) (Err Spent)
-    (Ok (o, claim_of o least)))))))
+    (either (gap o.last c.shelf.held) (Err Whole) (λ least.
+    cond (nat_le MOST_CLAIMS o.claims) (Err Spent)
+    (Ok (o, claim_of o least))))))
 
 -- the answer of a claim
 abbrev pub claim_answer : {M : Type 0} → State M → List ℕ → Result Claim ChannelFault
@@ -72,9 +74,9 @@ reclaimed c out n o = record { opened = Some (with_claim out n o); shelf = c.she
 abbrev pub claim_after : {M : Type 0} → State M → List ℕ → State M
 claim_after c buffer = on_ok (claim_verdict c buffer) (λ v. reclaimed c (Some v.1) (v.0.claims + 1) v.0) c
 
--- the buffer after a claim: the request for its range in front, bytes from 44 on as they were
+-- the buffer after a claim: the request for its range in front, what lies behind it as it was
 abbrev pub claim_buffer : {M : Type 0} → State M → ℕ → List ℕ → List ℕ
-claim_buffer c time buffer = on_ok (claim_verdict c buffer) (λ v. request_after buffer time v.1.begin v.1.end v.0.source) buffer
+claim_buffer c time buffer = on_ok (claim_verdict c buffer) (λ v. request time v.1.begin v.1.end v.0.source ++ drop REQUEST buffer) buffer
 
 -- two claims have one channel number and one serial
 abbrev pub same_claim : Claim → Claim → Bool

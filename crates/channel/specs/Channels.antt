@@ -1,21 +1,16 @@
 -- What a channel of the code means.
-use Rattle.std.specs.Prelude.{ℕ, List, take, Result}
+use Rattle.std.specs.Prelude.{ℕ, Result}
 use Rattle.std.specs.Option.{option_map}
+use Rattle.wire.specs.Sources.{source_bytes}
 use Rattle.handover.specs.declared.fault.ChannelFault.{ChannelFault}
 use Rattle.handover.specs.Words.{answer}
 use Rattle.sink.specs.declared.Sink.{Ghosts as Sink}
 use Rattle.shelf.specs.declared.Shelf.{Ghosts as Shelf}
 use Rattle.channel.specs.declared.claim.Claim.{Claim}
-use Rattle.channel.specs.declared.source.SourceId.{SourceId}
 use Rattle.channel.specs.declared.channel.Owed.{Owed}
 use Rattle.channel.specs.declared.channel.Open.{Open}
 use Rattle.channel.specs.declared.channel.Channel.{Channel}
 use Rattle.channel.specs.States.{Opened, State}
-use Rattle.channel.specs.Calls.{claim_of}
-
--- the bytes of a source id
-abbrev pub source_bytes : SourceId → List ℕ
-source_bytes s = take s.len s.bytes
 
 -- the claim that is out of a channel with this number
 abbrev pub claim_out : ℕ → Owed → Claim
@@ -31,9 +26,9 @@ opened_with last o = record {
   claims = o.claims;
 }
 
--- the claim that is given of a gap, where last is the given number
-abbrev pub told_gap : ℕ → Result (Open × ℕ) ChannelFault → Result (Opened × Claim) ChannelFault
-told_gap last r = answer r (λ v. (opened_with last v.0, claim_of (opened_with last v.0) v.1))
+-- an open channel with this last number, and the claim that it gives
+abbrev pub told_claim : ℕ → Result (Open × Owed) ChannelFault → Result (Opened × Claim) ChannelFault
+told_claim last r = answer r (λ v. (opened_with last v.0, claim_out v.0.number v.1))
 
 module _ {X Y : Type 0} (sink : Sink X) (shelf : Shelf Y) where
   -- the state of a channel

@@ -1,8 +1,11 @@
 -- What the calls come to, beside the promise: counts, claims and source ids.
-use Rattle.std.specs.Prelude.{◌≡◌, ℕ, ◌+◌, ◌≤◌, true, false, List, [], ◌∷◌, ◌++◌, drop, Some, Ok}
+use Rattle.std.specs.Prelude.{◌≡◌, ℕ, ◌+◌, ◌≤◌, true, false, List, [], ◌∷◌, ◌++◌, drop, Some, Ok, Result}
+use Rattle.wire.specs.declared.request.TheConstants.{REQUEST}
 use Rattle.wire.specs.Request.{source_right, request}
 use Rattle.shelf.specs.Store.{has, Lawful}
 use Rattle.sink.specs.Events.{Event, data_of, loss_of, refresh_of, restart_of}
+use Rattle.handover.specs.declared.fault.ChannelFault.{ChannelFault}
+use Rattle.channel.specs.declared.gaps.TheConstants.{MOST_ASKED}
 use Rattle.channel.specs.declared.claim.Claim.{Claim}
 use Rattle.handover.specs.declared.handover.Taken.{Taken}
 use Rattle.order.specs.Machine.{History, offered, machine}
@@ -23,16 +26,20 @@ turns (restart_of n ∷ es) = turns es
 abbrev pub SourceRight : {M : Type 0} → State M → Type 0
 SourceRight c = (o : Opened) → c.opened ≡ Some o → source_right o.source ≡ true
 
--- A claim of an open channel asks for numbers that are missing, at least one and at most 1,000 from the next on, and the request for them stands in
--- front of the buffer.
+-- A claim of an open channel asks for numbers that are missing, at least one and at most so many from the next on, and the request for them stands
+-- in front of the buffer.
 pub record Asks {M : Type 0} (c : State M) (o : Opened) (time : ℕ) (buffer : List ℕ) (k : Claim) : Type 0 where
   pub number : k.channel ≡ o.number
   pub serial : k.serial ≡ o.claims + 1
   pub begins : k.begin ≡ o.last + 1
   pub some : k.begin ≤ k.end
-  pub few : k.end ≤ o.last + 1000
+  pub few : k.end ≤ o.last + MOST_ASKED
   pub missing : (n : ℕ) → k.begin ≤ n → n ≤ k.end → has c.shelf.held n ≡ false
-  pub request : claim_buffer c time buffer ≡ request time k.begin k.end o.source ++ drop 44 buffer
+  pub request : claim_buffer c time buffer ≡ request time k.begin k.end o.source ++ drop REQUEST buffer
+
+-- a claim that was given, where this was answered in a state
+abbrev pub GivenAsks : {M : Type 0} → State M → ℕ → List ℕ → Result Claim ChannelFault → Type 0
+GivenAsks c time buffer r = (o : Opened) (k : Claim) → c.opened ≡ Some o → r ≡ Ok k → Asks c o time buffer k
 
 module _ {M : Type 0} (step : Event → M → M) where
   -- a taken offer answers the channel's last and how many data and loss events it entered in the order
@@ -44,7 +51,6 @@ module _ {M : Type 0} (step : Event → M → M) where
   abbrev pub SourcesStay : Type 0
   SourcesStay = (c : State M) (a : Ask) → SourceRight c → SourceRight (after step a c)
 
-  -- a claim that is given, where the shelf keeps its law and the source id is right
+  -- every claim that is given, where the shelf keeps its law
   abbrev pub ClaimsAsk : Type 0
-  ClaimsAsk = (c : State M) (o : Opened) (time : ℕ) (buffer : List ℕ) (k : Claim) → Lawful c.shelf → SourceRight c → c.opened ≡ Some o
-      → claim_answer c buffer ≡ Ok k → Asks c o time buffer k
+  ClaimsAsk = (c : State M) (time : ℕ) (buffer : List ℕ) → Lawful c.shelf → GivenAsks c time buffer (claim_answer c buffer)

@@ -6,7 +6,3 @@ pub mod Follows
 pub mod Kept
 pub mod Runs
 pub mod Laws
-pub mod Packets
-pub mod Table
-pub mod Sample
-pub mod Cases

@@ -1,6 +1,13 @@
 //! A channel: closed, or open with its number, its source id and the claim that is out.
-use crate::source::SourceId;
+ghost use Rattle.std.specs.Prelude.{◌≡◌, ◌+◌, ◌-◌, ◌<◌, ◌≤◌};
+ghost use Rattle.channel.specs.declared.channel.TheConstants.{MOST_CLAIMS};
+
+use crate::claim::Claim;
 use handover::Handover;
+use wire::SourceId;
+
+/// How many claims are given from one making.
+pub(crate) const MOST_CLAIMS: u16 = 500;
 
 /// What a channel keeps of the claim that is out.
 // Kept with begin and end as two numbers: a range of the library can't be copied, and each is shown, written and counted alone.
@@ -11,6 +18,22 @@ pub struct Owed {
     pub(crate) end: u32,
 }
 
+impl Owed {
+    ghost use Rattle.channel.specs.Channels.{claim_out};
+
+    // The claim itself, of a channel with this number.
+    pub(crate) fn claim(self, channel: u8) -> Claim
+        ensures { result ≡ claim_out channel self }
+    {
+        Claim {
+            channel,
+            serial: self.serial,
+            begin: self.begin,
+            end: self.end,
+        }
+    }
+}
+
 /// What an open channel has beside what it hands over.
 #[derive(Clone, Copy)]
 pub struct Open {
@@ -18,6 +41,7 @@ pub struct Open {
     pub(crate) source: SourceId,
     pub(crate) out: Option<Owed>,
     pub(crate) claims: u16,
+    ghost few: { claims ≤ MOST_CLAIMS },
 }
 
 // Kept without a Model: the state takes the meanings of the sink and the shelf, which would bound the type's parameters, and so narrow it.

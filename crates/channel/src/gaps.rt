@@ -1,33 +1,40 @@
 //! What a claim and its settlement do.
-ghost use Rattle.std.specs.Prelude.{◌≡◌, ◌+◌, ◌-◌, min};
-ghost use Rattle.channel.specs.Channels.{state, told_gap};
-ghost use Rattle.channel.specs.Calls.{claim_verdict, claim_answer, claim_after, claim_buffer, settle_answer, settle_after};
+ghost use Rattle.std.specs.Prelude.{◌≡◌, ◌<◌, ◌≤◌, length, IfOk};
+ghost use Rattle.channel.specs.Channels.{claim_out, opened_with, state, told_claim};
+ghost use Rattle.channel.specs.Calls.{claim_of, claim_verdict, claim_answer, claim_after, claim_buffer, settle_answer, settle_after};
 
-use crate::channel::{Channel, Open, Owed};
+use crate::channel::{Channel, MOST_CLAIMS, Open, Owed};
 use crate::claim::Claim;
 use handover::ChannelFault;
 use shelf::Shelf;
 use sink::Sink;
-use wire::{REQUEST, write_request};
-
-/// How many claims are given from one making.
-const MOST_CLAIMS: u16 = 500;
+use wire::REQUEST;
 
 /// How many numbers a claim asks for at most.
 const MOST_ASKED: u32 = 1_000;
 
-// The last number that a claim asks for, below the least number held above last.
-fn claim_end(last: u32, least: u32) -> u32
-    ensures { result ≡ min (least - 1) (last + 1000) }
-{
-    least.saturating_sub(1).min(last.saturating_add(MOST_ASKED))
+impl Open {
+    // The claim of the gap between last and the least number held above it.
+    fn owed(&self, last: u32, least: u32) -> Owed
+        requires few { self.now.claims < MOST_CLAIMS }
+        requires gap { last < least }
+        ensures { claim_out self.now.number result ≡ claim_of (opened_with last self.now) least }
+    {
+        Owed {
+            serial: self.claims + 1,
+            begin: last + 1,
+            end: last + MOST_ASKED.min(least - last - 1),
+        }
+    }
 }
 
 // Kept as steps beside the calls, as a making and a restart are.
 impl<S: Sink, H: Shelf> Channel<S, H> {
-    // Whether a claim is given, and if so of which gap: its end lies below the least number held above last.
-    fn may_claim(&self, buffer: &[u8]) -> Result<(Open, u32), ChannelFault>
-        ensures { told_gap self.now.handover.last result ≡ claim_verdict (state (S.Sink) (H.Shelf) self.now) buffer.now }
+    // The claim that is given, if one is, and of which open channel.
+    fn next_claim(&self, buffer: &[u8]) -> Result<(Open, Owed), ChannelFault>
+        ensures verdict { told_claim self.now.handover.last result ≡ claim_verdict (state (S.Sink) (H.Shelf) self.now) buffer.now }
+        ensures room { IfOk result (λ given. REQUEST ≤ length buffer.now) }
+        ensures few { IfOk result (λ given. given.1.serial ≤ MOST_CLAIMS) }
     {
         let open = self.open.ok_or(ChannelFault::Phase)?;
         if buffer.len() < REQUEST {
@@ -40,7 +47,7 @@ impl<S: Sink, H: Shelf> Channel<S, H> {
         if open.claims >= MOST_CLAIMS {
             return Err(ChannelFault::Spent);
         }
-        Ok((open, least))
+        Ok((open, open.owed(self.handover.last(), least)))
     }
 
     pub(crate) fn claim_step(&mut self, time: u32, buffer: &mut [u8]) -> Result<Claim, ChannelFault>
@@ -48,31 +55,20 @@ impl<S: Sink, H: Shelf> Channel<S, H> {
         ensures after { state (S.Sink) (H.Shelf) self.new ≡ claim_after (state (S.Sink) (H.Shelf) self.old) buffer.old }
         ensures buffer { buffer.new ≡ claim_buffer (state (S.Sink) (H.Shelf) self.old) time buffer.old }
     {
-        let (open, least) = self.may_claim(buffer)?;
-        let last = self.handover.last();
-        // Fewer than 500 claims were made, and the gap lies above last: both sums are exact.
-        let serial = open.claims.saturating_add(1);
-        let begin = last.saturating_add(1);
-        let end = claim_end(last, least);
-        let _ = write_request(buffer, time, begin, end, open.source.bytes());
-        self.open = Some(Open {
-            out: Some(Owed { serial, begin, end }),
-            claims: serial,
-            ..open
-        });
-        Ok(Claim {
-            channel: open.number,
-            serial,
-            begin,
-            end,
-        })
+        let (mut open, owed) = self.next_claim(buffer)?;
+        let request = open.source.request(time, owed.begin, owed.end);
+        buffer[0..REQUEST].copy_from_slice(&request);
+        open.out = Some(owed);
+        open.claims = owed.serial;
+        self.open = Some(open);
+        Ok(owed.claim(open.number))
     }
 
     pub(crate) fn settle_step(&mut self, claim: Claim) -> Result<u32, (ChannelFault, Claim)>
         ensures answer { result ≡ settle_answer (state (S.Sink) (H.Shelf) self.old) claim }
         ensures after { state (S.Sink) (H.Shelf) self.new ≡ settle_after (state (S.Sink) (H.Shelf) self.old) claim }
     {
-        let Some(open) = self.open else {
+        let Some(mut open) = self.open else {
             return Err((ChannelFault::Phase, claim));
         };
         let Some(owed) = open.out else {
@@ -87,7 +83,8 @@ impl<S: Sink, H: Shelf> Channel<S, H> {
             begin: _,
             end: _,
         } = claim;
-        self.open = Some(Open { out: None, ..open });
+        open.out = None;
+        self.open = Some(open);
         Ok(self.handover.missing(owed.begin, owed.end))
     }
 }

@@ -4,10 +4,7 @@
 ghost use Rattle.channel.specs.Follows.{CallsFollow, MakingFollows};
 ghost use Rattle.channel.specs.Kept.{PromiseStands};
 ghost use Rattle.channel.specs.Runs.{RunsJoin, RunsStand};
-ghost use Rattle.channel.specs.Cases.{Cases};
 ghost use Rattle.channel.specs.Laws.{Counts, SourcesStay, ClaimsAsk};
-ghost use Rattle.channel.specs.Sample.{SampleHolds};
-ghost use Rattle.channel.specs.Table.{Table};
 
 use sink::Sink;
 
@@ -15,13 +12,11 @@ mod calls;
 mod channel;
 mod claim;
 mod gaps;
-mod source;
 mod steps;
 
 pub use channel::Channel;
 pub use claim::Claim;
 pub use handover::{ChannelFault, OfferFault, Taken};
-pub use order::{books_stand, keepers_move, last_stands, order_stands, taken_once, waiting_rises};
 
 /// A channel that follows a history follows the longer one after any call, taken or refused, and a making that is taken begins one: a theorem,
 /// for every sink and whatever the shelf means.
@@ -48,22 +43,4 @@ pub fn laws_stand<S: Sink>()
     ensures counts { Counts S.Sink.step }
     ensures sources { SourcesStay S.Sink.step }
     ensures claims { ClaimsAsk S.Sink.step }
-{}
-
-/// Worked cases: a theorem.
-#[tactic(auto, using(crate::proofs::Table::table))]
-pub fn table_holds()
-    ensures { Table }
-{}
-
-/// The promise is not empty: a run of real packets that earns it, with a whole book at its end: a theorem.
-#[tactic(auto, using(crate::proofs::Sample::sample_holds))]
-pub fn sample_holds()
-    ensures { SampleHolds }
-{}
-
-/// Worked cases of each refusal, in their order, and of the buffers: a theorem.
-#[tactic(auto, using(crate::proofs::Cases::cases))]
-pub fn cases_hold()
-    ensures { Cases }
 {}

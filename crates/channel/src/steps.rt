@@ -5,10 +5,10 @@ ghost use Rattle.channel.specs.Offers.{offer_answer, offer_after, offer_scratch}
 ghost use Rattle.channel.specs.Calls.{make_answer, make_after, restart_answer, restart_after};
 
 use crate::channel::{Channel, Open};
-use crate::source::SourceId;
 use handover::{ChannelFault, OfferFault, Taken};
 use shelf::Shelf;
 use sink::Sink;
+use wire::SourceId;
 
 // Kept as steps beside the calls: what a call `stands` for follows from its answer and from where it leads, in one way for all of its returns.
 impl<S: Sink, H: Shelf> Channel<S, H> {
@@ -27,7 +27,7 @@ impl<S: Sink, H: Shelf> Channel<S, H> {
         if first == 0 {
             return Err(ChannelFault::Zero);
         }
-        let source = SourceId::try_from(source)?;
+        let source = SourceId::try_from(source).map_err(|_| ChannelFault::Source)?;
         self.handover.begin(first);
         self.open = Some(Open {
             number,

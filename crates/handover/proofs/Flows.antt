@@ -1,8 +1,9 @@
 -- Handing on turn by turn: what a loop has still to do leads where all would.
-use Rattle.std.proofs.Common.{◌≡◌, ℕ, zero, suc, ◌+◌, ◌-◌, ◌^◌, ◌<◌, ◌≤◌, min, Bool, true, false, cond, eqb, leb, List, [], ◌∷◌, length, take, drop, Some, None, Ok, Option, sym, refl, ap, ◌∙◌, subst, ⊎_elim, arith, MatchOption}
-use Rattle.std.proofs.lemmas.Bool.{cond-true, cond-false, cases_Bool, le-leb}
+use Rattle.std.proofs.Common.{◌≡◌, ℕ, zero, suc, ◌+◌, ◌-◌, ◌^◌, ◌<◌, ◌≤◌, min, Bool, true, false, cond, eqb, leb, List, [], ◌∷◌, length, take, drop, Some, None, Ok, Option, sym, refl, ap, ◌∙◌, subst, ⊎_elim, arith, MatchOption, IfSome}
+use Rattle.std.proofs.lemmas.Bool.{cond-true, cond-false, both_ways, cases_Bool, le-leb}
 use Rattle.std.proofs.lemmas.Bool.Decides.{nat_tests}
 use Rattle.std.proofs.lemmas.List.{take_at}
+use Rattle.shelf.specs.declared.TheConstants.{SHORTEST, LONGEST}
 use Rattle.shelf.specs.Store.{Packets, Store, lookup, has, above, remove, take_answer, take_buffer, take_after, length_of, written, with_held, Up, Sized}
 use Rattle.shelf.proofs.Kept.{held_is_a_map, lookup_none, remove_none}
 use Rattle.sink.specs.Events.{Event, loss_of}
@@ -90,23 +91,32 @@ above_some : (h : Packets) (l m : ℕ) → Some m ≡ above h l → Up 0 h → (
 above_some h l m e up =
     subst (λ o. MatchOption o ((j : ℕ) → has h j ≡ true → j ≤ l) (λ m. (l < m) × (has h m ≡ true) × ((j : ℕ) → l < j → has h j ≡ true → m ≤ j))) (sym e) ((held_is_a_map h up).least l)
 
--- a gap lies above last, and its end fits 32 bits
-pub gap_within : (l : ℕ) (h : Packets) (m : ℕ) → Up 0 h → Some m ≡ gap l h → (l < m) × (m < 2 ^ 32)
-gap_within l h m up e = go (has h (l + 1)) e
+-- a gap: from the next number on, below the least one held, none is held
+pub record Gap (l : ℕ) (h : Packets) (m : ℕ) : Type 0 where
+  pub past : l + 1 < m
+  pub missing : (n : ℕ) → l < n → n < m → has h n ≡ false
+
+pub gap_found : (l : ℕ) (h : Packets) (m : ℕ) → Up 0 h → Some m ≡ gap l h → Gap l h m
+gap_found l h m up e = go (has h (l + 1)) refl e
   where
-    go : (t : Bool) → Some m ≡ cond t None (above h l) → (l < m) × (m < 2 ^ 32)
-    go true e = absurd (never (cc))
-    go false e =
+    go : (t : Bool) → has h (l + 1) ≡ t → Some m ≡ cond t None (above h l) → Gap l h m
+    go true rest e = absurd (never (cc))
+    go false rest e =
         let x = above_some h l m e up in
-        (x.0, held_small 0 m h up x.1)
+        let over : l < m = x.0 in
+        let next : m ≡ l + 1 → ⊥ = λ q. both_ways (has h m) (ap (has h) q ∙ rest) x.1 in
+        record {
+          past = omega arith;
+          missing = λ n a b. ⊎_elim (λ t. absurd (let z = x.2 n a t in omega arith)) (λ t. t) (cases_Bool (has h n));
+        }
 
 -- a packet that is held has a packet's length
-pub held_sized : (h : Packets) (k : ℕ) (p : List ℕ) → Sized h → lookup h k ≡ Some p → (16 ≤ length p) × (length p ≤ 1500)
+pub held_sized : (h : Packets) (k : ℕ) (p : List ℕ) → Sized h → lookup h k ≡ Some p → (SHORTEST ≤ length p) × (length p ≤ LONGEST)
 held_sized [] k p z e = absurd (never (cc))
 held_sized (x ∷ h) k p z e = go (eqb k x.0) (held_sized h k p z.2) e
   where
-    go : (b : Bool) → (lookup h k ≡ Some p → (16 ≤ length p) × (length p ≤ 1500)) → cond b (Some x.1) (lookup h k) ≡ Some p → (16 ≤ length p) × (length p ≤ 1500)
-    go true ih e = let q : x.1 ≡ p = cc in subst (λ y. (16 ≤ length y) × (length y ≤ 1500)) q (z.0, z.1)
+    go : (b : Bool) → (lookup h k ≡ Some p → (SHORTEST ≤ length p) × (length p ≤ LONGEST)) → cond b (Some x.1) (lookup h k) ≡ Some p → (SHORTEST ≤ length p) × (length p ≤ LONGEST)
+    go true ih e = let q : x.1 ≡ p = cc in subst (λ y. (SHORTEST ≤ length y) × (length y ≤ LONGEST)) q (z.0, z.1)
     go false ih e = ih e
 
 -- a packet that came off the shelf: it stands in front of the buffer, and its length is a packet's
@@ -114,7 +124,7 @@ pub record Off (s : Store) (k : ℕ) (b : List ℕ) (t : Store) (out : List ℕ)
   pub found : lookup s.held k ≡ Some (take len out)
   pub front : out ≡ written (Some (take len out)) b
   pub rest : t ≡ without k s
-  pub within : len ≤ 1500
+  pub within : len ≤ LONGEST
 
 -- what was taken from the shelf stands in front of the buffer, which stays as long as it was
 pub taken_some : (o : Option (List ℕ)) (buffer out : List ℕ) (len : ℕ) → Some len ≡ length_of o → out ≡ written o buffer → o ≡ Some (take len out)
@@ -136,13 +146,13 @@ took_off (Some p) s t k b out len e a w r z =
       within = omega arith;
     }
 
-pub off : (s t : Store) (k : ℕ) (b out : List ℕ) (len : ℕ) → 1500 ≤ length b → Ok (Some len) ≡ take_answer s k b → out ≡ take_buffer s k b → t ≡ take_after s k b
+pub off : (s t : Store) (k : ℕ) (b out : List ℕ) (len : ℕ) → LONGEST ≤ length b → Ok (Some len) ≡ take_answer s k b → out ≡ take_buffer s k b → t ≡ take_after s k b
     → Sized s.held → Off s k b t out len
 off s t k b out len room a w r z =
-    let long : leb 1500 (length b) ≡ true = le-leb 1500 (length b) room in
+    let long : leb LONGEST (length b) ≡ true = le-leb LONGEST (length b) room in
     took_off (lookup s.held k) s t k b out len refl
-    (ok_same (Some len) (length_of (lookup s.held k)) (a ∙ cond-true (leb 1500 (length b)) _ _ long))
-    (w ∙ cond-true (leb 1500 (length b)) _ _ long) (r ∙ cond-true (leb 1500 (length b)) _ _ long) z
+    (ok_same (Some len) (length_of (lookup s.held k)) (a ∙ cond-true (leb LONGEST (length b)) _ _ long))
+    (w ∙ cond-true (leb LONGEST (length b)) _ _ long) (r ∙ cond-true (leb LONGEST (length b)) _ _ long) z
 
 -- the next number was handed over
 pub handed : {M : Type 0} (step : Event → M → M) (f : Flow M) (s : Store) (m : M) (b : List ℕ) (o : Option (List ℕ)) → lookup f.shelf.held (f.last + 1) ≡ o
@@ -172,6 +182,11 @@ pub above_none : (h : Packets) (l n : ℕ) → None ≡ above h l → Up 0 h →
 above_none h l n e up a =
     let x = subst (λ o. MatchOption o ((j : ℕ) → has h j ≡ true → j ≤ l) (λ m. (l < m) × (has h m ≡ true) × ((j : ℕ) → l < j → has h j ≡ true → m ≤ j))) (sym e) ((held_is_a_map h up).least l) in
     ⊎_elim (λ t. absurd (let s = x n t in omega arith)) (λ t. t) (cases_Bool (has h n))
+
+-- the least number held above last, if there is one, is above it
+pub above_past : (h : Packets) (l : ℕ) (o : Option ℕ) → o ≡ above h l → Up 0 h → IfSome o (λ m. l < m)
+above_past h l None e up = tt
+above_past h l (Some m) e up = (above_some h l m e up).0
 
 -- the least number held above last is not 0
 pub above_positive : (h : Packets) (l m : ℕ) → Some m ≡ above h l → Up 0 h → 1 ≤ m

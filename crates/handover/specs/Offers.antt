@@ -5,15 +5,17 @@ use Rattle.std.specs.Result.{result_err}
 use Rattle.std.specs.Result as results
 use Rattle.wire.specs.declared.fault.ReadFault.{ReadFault}
 use Rattle.wire.specs.Reading.{Msg, Pkt, reset, unavailable, mapping, full, delta, and_then, reading}
+use Rattle.shelf.specs.declared.TheConstants.{LONGEST}
 use Rattle.shelf.specs.declared.PutFault.{PutFault}
 use Rattle.shelf.specs.Store.{Store, has, put_answer}
 use Rattle.sink.specs.Events.{Event}
-use Rattle.order.specs.Machine.{brought}
+use Rattle.order.specs.Machine.{Content, carries, declares, renews, nothing, brought}
+use Rattle.handover.specs.declared.offers.TheConstants.{WINDOW, WIDEST, WHOLE_REFRESH, ONE_PACKET}
 use Rattle.handover.specs.declared.fault.ChannelFault.TheVariants.{Short, Reset, Parts, Ahead, Behind, Far, Wide}
 use Rattle.handover.specs.declared.fault.OfferFault.{OfferFault}
 use Rattle.handover.specs.declared.fault.OfferFault.TheVariants.{Reader, Shelf, Channel}
 use Rattle.handover.specs.declared.handover.Taken.{Taken}
-use Rattle.handover.specs.Words.{on_ok, answer, unless}
+use Rattle.handover.specs.Words.{either, on_ok, answer, unless}
 use Rattle.handover.specs.Flows.{Flow, takes}
 
 -- why a shelf does not take a packet
@@ -25,32 +27,39 @@ shelf_fault r = option_map Shelf (result_err r)
 abbrev pub against_data : ℕ → Store → ℕ → List ℕ → Option OfferFault
 against_data l s n p =
     cond (nat_le n l || has s.held n) (Some (Channel Behind))
-    (cond (nat_lt (l + 75000) n) (Some (Channel Far))
+    (cond (nat_lt (l + WINDOW) n) (Some (Channel Far))
     (cond (n == l + 1) None (shelf_fault (put_answer s n p))))
 
--- a range: it ends at most at last, begins above the next number, or has over 1,000 numbers
+-- a range: it ends at most at last, begins above the next number, or is too wide
 abbrev pub against_range : ℕ → ℕ → ℕ → Option OfferFault
 against_range l b e =
     cond (nat_le e l) (Some (Channel Behind))
     (cond (nat_lt (l + 1) b) (Some (Channel Ahead))
-    (cond (nat_lt 1000 (e + 1 - b)) (Some (Channel Wide)) None))
+    (cond (nat_lt WIDEST (e + 1 - b)) (Some (Channel Wide)) None))
 
 -- a refresh: it is not whole in one packet, or is as of a number above last
-abbrev pub against_refresh : ℕ → Pkt → Option OfferFault
-against_refresh l q =
-    cond (q.flag == 6 && q.link == 1) (cond (nat_lt l q.number) (Some (Channel Ahead)) None) (Some (Channel Parts))
+abbrev pub against_refresh : ℕ → ℕ → Pkt → Option OfferFault
+against_refresh l n q =
+    cond (q.flag == WHOLE_REFRESH && q.link == ONE_PACKET) (cond (nat_lt l n) (Some (Channel Ahead)) None) (Some (Channel Parts))
 
--- the same by the message: a reset is never taken, and a full update with flag 5 or 6 is a refresh
-abbrev pub against_message : Msg → ℕ → Store → List ℕ → Pkt → Option OfferFault
-against_message (reset n) l s p q = Some (Channel (Reset n))
-against_message (unavailable b e) l s p q = against_range l b e
-against_message mapping l s p q = against_data l s q.number p
-against_message (full i c ps) l s p q = cond (q.flag == 5 || q.flag == 6) (against_refresh l q) (against_data l s q.number p)
-against_message (delta i c ps) l s p q = against_data l s q.number p
+-- by what a packet brings
+abbrev pub against_content : Content → ℕ → Store → List ℕ → Pkt → Option OfferFault
+against_content (carries n m) l s p q = against_data l s n p
+against_content (declares b e) l s p q = against_range l b e
+against_content (renews n m) l s p q = against_refresh l n q
+against_content nothing l s p q = None
 
--- what stands against a packet that is read
+-- the next number that a reset names
+abbrev pub next_of : Msg → Option ℕ
+next_of (reset n) = Some n
+next_of (unavailable b e) = None
+next_of mapping = None
+next_of (full i c ps) = None
+next_of (delta i c ps) = None
+
+-- what stands against a packet that is read: a reset is never taken
 abbrev pub against : ℕ → Store → List ℕ → Pkt → Option OfferFault
-against l s p q = against_message q.message l s p q
+against l s p q = either (next_of q.message) (against_content (brought q) l s p q) (λ n. Some (Channel (Reset n)))
 
 -- a packet that is read goes on, and one that is not is refused with the reader's fault
 abbrev pub read_then : {A : Type 0} → Result Pkt ReadFault → (Pkt → Result A OfferFault) → Result A OfferFault
@@ -59,7 +68,7 @@ read_then r f = and_then (results.result_map_both (λ q. q) Reader r) f
 -- whether a packet is taken: what it says, or the first of the refusals
 abbrev pub verdict : {M : Type 0} → Flow M → List ℕ → Result Pkt OfferFault
 verdict f p =
-    cond (nat_lt (length f.scratch) 1500) (Err (Channel Short))
+    cond (nat_lt (length f.scratch) LONGEST) (Err (Channel Short))
     (read_then (reading p) (λ q. unless (against f.last f.shelf p q) q))
 
 -- last, and by how much it grew: so many data and loss events were handed over

@@ -44,7 +44,7 @@ fn hand_packet<S: Sink>(sink: &mut S, number: u32, packet: &[u8])
 
 // Whether a refresh is taken where last is the given number.
 fn check_refresh(last: u32, packet: &Packet<'_>) -> Result<(), OfferFault>
-    ensures { result ≡ unless (against_refresh last (packet_model packet.now)) tt }
+    ensures { result ≡ unless (against_refresh last packet.now.number (packet_model packet.now)) tt }
 {
     if packet.flag != WHOLE_REFRESH || packet.link != ONE_PACKET {
         return Err(ChannelFault::Parts.into());
@@ -60,7 +60,7 @@ fn check_refresh(last: u32, packet: &Packet<'_>) -> Result<(), OfferFault>
 impl<S: Sink, H: Shelf> Handover<S, H> {
     // Hands over the next number: the packet that is held of it, or its loss.
     fn hand(&mut self, scratch: &mut [u8])
-        requires room { 1500 ≤ length scratch.old }
+        requires room { LONGEST ≤ length scratch.old }
         requires next { self.old.last + 1 < 2 ^ 32 }
         ensures { flow (S.Sink) (H.Shelf) self.new scratch.new ≡ hand S.Sink.step (flow (S.Sink) (H.Shelf) self.old scratch.old) }
     {
@@ -86,7 +86,7 @@ impl<S: Sink, H: Shelf> Handover<S, H> {
     // Hands over what is held, while the next number is.
     #[tactic(auto, using(crate::proofs::Flows::handed_on_more, crate::proofs::Flows::handed_on_rest))]
     fn drain(&mut self, scratch: &mut [u8])
-        requires { 1500 ≤ length scratch.old }
+        requires { LONGEST ≤ length scratch.old }
         ensures { flow (S.Sink) (H.Shelf) self.new scratch.new ≡ handed_on S.Sink.step (flow (S.Sink) (H.Shelf) self.old scratch.old) }
     {
         while self.holds_next() {
@@ -124,7 +124,7 @@ impl<S: Sink, H: Shelf> Handover<S, H> {
     // Kept as a while: handing over moves last on, so the number of a range would stand beside it unused.
     #[tactic(auto, using(crate::proofs::Flows::run_more, crate::proofs::Flows::run_rest))]
     fn hand_to(&mut self, end: u32, scratch: &mut [u8])
-        requires { 1500 ≤ length scratch.old }
+        requires { LONGEST ≤ length scratch.old }
         ensures { flow (S.Sink) (H.Shelf) self.new scratch.new ≡ hands_to S.Sink.step end (flow (S.Sink) (H.Shelf) self.old scratch.old) }
     {
         while self.last < end {
@@ -154,7 +154,7 @@ impl<S: Sink, H: Shelf> Handover<S, H> {
         packet: &[u8],
         scratch: &mut [u8],
     ) -> Result<(), OfferFault>
-        requires { 1500 ≤ length scratch.old }
+        requires { LONGEST ≤ length scratch.old }
         ensures answer { result ≡ unless (against_data self.old.last (H.Shelf.means self.old.shelf) number packet.now) tt }
         ensures after { flow (S.Sink) (H.Shelf) self.new scratch.new ≡ on_ok result (λ _. takes S.Sink.step (carries number (model message.entry)) packet.now (flow (S.Sink) (H.Shelf) self.old scratch.old)) (flow (S.Sink) (H.Shelf) self.old scratch.old) }
     {
@@ -181,7 +181,7 @@ impl<S: Sink, H: Shelf> Handover<S, H> {
 
     // Offers a range that is declared unavailable. Each of its numbers is handed over, and what is held behind it.
     fn offer_range(&mut self, begin: u32, end: u32, scratch: &mut [u8]) -> Result<(), OfferFault>
-        requires { 1500 ≤ length scratch.old }
+        requires { LONGEST ≤ length scratch.old }
         ensures answer { result ≡ unless (against_range self.old.last begin end) tt }
         ensures after { flow (S.Sink) (H.Shelf) self.new scratch.new ≡ on_ok result (λ _. handed_on S.Sink.step (hands_to S.Sink.step end (flow (S.Sink) (H.Shelf) self.old scratch.old))) (flow (S.Sink) (H.Shelf) self.old scratch.old) }
     {
@@ -206,7 +206,7 @@ impl<S: Sink, H: Shelf> Handover<S, H> {
         bytes: &[u8],
         scratch: &mut [u8],
     ) -> Result<(), OfferFault>
-        requires { 1500 ≤ length scratch.old }
+        requires { LONGEST ≤ length scratch.old }
         ensures answer { result ≡ unless (against self.old.last (H.Shelf.means self.old.shelf) bytes.now (packet_model packet.now)) tt }
         ensures after { flow (S.Sink) (H.Shelf) self.new scratch.new ≡ on_ok result (λ _. takes S.Sink.step (brought (packet_model packet.now)) bytes.now (flow (S.Sink) (H.Shelf) self.old scratch.old)) (flow (S.Sink) (H.Shelf) self.old scratch.old) }
     {
@@ -231,7 +231,8 @@ impl<S: Sink, H: Shelf> Handover<S, H> {
         self.last = number.saturating_sub(1);
     }
 
-    /// Offers a packet: it is handed over, with what is held behind it, or kept on the shelf, or refused.
+    /// Offers a packet: it is handed over, with what is held behind it, or kept on the shelf, or refused. A refused one changes nothing, and leaves the scratch
+    /// buffer as it was, which has at least 1,500 bytes.
     #[tactic(auto, using(crate::proofs::Grows::takes_grow))]
     pub fn offer(&mut self, packet: &[u8], scratch: &mut [u8]) -> Result<Taken, OfferFault>
         ensures answer { result ≡ flow_answer S.Sink.step (flow (S.Sink) (H.Shelf) self.old scratch.old) packet.now }

@@ -1,5 +1,5 @@
 //! What a handover shows.
-ghost use Rattle.std.specs.Prelude.{◌≡◌, ◌+◌, ◌-◌, not, ◌&&◌, nat_lt};
+ghost use Rattle.std.specs.Prelude.{◌≡◌, ◌+◌, ◌-◌, ◌<◌, not, ◌&&◌, nat_lt, IfSome};
 ghost use Rattle.shelf.specs.Store.{has};
 ghost use Rattle.handover.specs.Flows.{gap, missing};
 
@@ -55,8 +55,10 @@ impl<S, H> Handover<S, H> {
 
 impl<S: Sink, H: Shelf> Handover<S, H> {
     /// The gap above last: the least number held above it, where the next one is not held.
+    #[tactic(auto, using(crate::proofs::Flows::above_past))]
     pub fn gap(&self) -> Option<u32>
-        ensures { result ≡ gap self.now.last (H.Shelf.means self.now.shelf).held }
+        ensures gap { result ≡ gap self.now.last (H.Shelf.means self.now.shelf).held }
+        ensures above { IfSome result (λ least. self.now.last < least) }
     {
         if self.holds_next() {
             return None;

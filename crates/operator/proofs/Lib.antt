@@ -1,2 +1,3 @@
+pub mod Hands
+pub mod Calls
 pub mod Lists
-pub mod Owns

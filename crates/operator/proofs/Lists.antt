@@ -1,50 +1,17 @@
 -- Lists of actions.
-use Rattle.std.proofs.Common.{◌≡◌, ℕ, suc, ◌+◌, ◌<◌, ◌≤◌, cond, ltb, List, [], ◌∷◌, ◌++◌, length, get_or, take, set, Some, None, Option, sym, refl, ap, ◌∙◌, subst, arith}
+use Rattle.std.proofs.Common.{◌≡◌, ℕ, suc, ◌+◌, ◌<◌, ◌≤◌, cond, ltb, List, [], ◌∷◌, ◌++◌, length, get_or, take, set, sym, refl, ap, ◌∙◌, arith}
 use Rattle.std.proofs.lemmas.Bool.{cond_both, ltb-true, ltb-false}
 use Rattle.std.proofs.lemmas.List.{take_more, length-take-le}
 use Rattle.sink.specs.Events.{Event}
-use Rattle.order.specs.Machine.{History}
-use Rattle.handover.specs.Words.{either}
-use Rattle.channel.specs.Follows.{Follows, Ask, noted, taken, after}
-use Rattle.channel.proofs.Follows.{calls_follow}
-use Rattle.channel.proofs.Kept.{promised}
 use Rattle.operator.specs.declared.action.Action.{Action}
 use Rattle.operator.specs.declared.action.Reply.{Reply}
-use Rattle.operator.specs.Desks.{Desk, asks, hand_after, buffer_after, desk_after, reply_to, noted_by, desks_after, replies_to, history_of, placed, RunsOn}
+use Rattle.operator.specs.Desks.{Desk, desk_after, reply_to, desks_after, replies_to, placed}
 
 module _ {M : Type 0} (step : Event → M → M) where
-  -- one action more at the end
-  pub desks_push : (xs : List Action) (a : Action) (d : Desk M) → desks_after step (xs ++ (a ∷ [])) d ≡ desk_after step a (desks_after step xs d)
-  desks_push [] a d = refl
-  desks_push (x ∷ xs) a d = desks_push xs a (desk_after step x d)
-
-  -- one list after another is the joined list, in the history that they make
-  pub history_join : (xs ys : List Action) (d : Desk M) (h : History) → history_of step (xs ++ ys) d h ≡ history_of step ys (desks_after step xs d) (history_of step xs d h)
-  history_join [] ys d h = refl
-  history_join (x ∷ xs) ys d h = history_join xs ys (desk_after step x d) (noted_by step x d h)
-
-  one_follows : (before : M) (x : Option Ask) (h : History) (d : Desk M) → Follows step before h d.channel
-      → Follows step before (either x h (λ x. noted x (taken step x d.channel) ∷ h))
-      (either x d (λ x. record { channel = after step x d.channel; hand = hand_after x d.channel d.hand; buffer = buffer_after step x d.channel d.buffer })).channel
-  one_follows before None h d f = f
-  one_follows before (Some x) h d f = calls_follow step before h d.channel x f
-
-  -- any list of actions keeps a channel following its history
-  pub list_follows : (before : M) (xs : List Action) (h : History) (d : Desk M) → Follows step before h d.channel
-      → Follows step before (history_of step xs d h) (desks_after step xs d).channel
-  list_follows before [] h d f = f
-  list_follows before (a ∷ xs) h d f = list_follows before xs (noted_by step a d h) (desk_after step a d) (one_follows before (asks a d) h d f)
-
-  -- the clause, from where the list leads
-  pub runs_on : (xs : List Action) (d e : Desk M) → e ≡ desks_after step xs d → RunsOn step xs d e
-  runs_on xs d e is before h f =
-      let on : Follows step before (history_of step xs d h) e.channel =
-      subst (λ (x : Desk M). Follows step before (history_of step xs d h) x.channel) (sym is) (list_follows before xs h d f) in
-      (on, promised step before (history_of step xs d h) e.channel on)
-
-  -- the same of one action
-  pub one_runs_on : (a : Action) (d e : Desk M) → e ≡ desk_after step a d → RunsOn step (a ∷ []) d e
-  one_runs_on a = runs_on (a ∷ [])
+  -- one list after another is the joined list
+  pub desks_join : (xs ys : List Action) (d : Desk M) → desks_after step (xs ++ ys) d ≡ desks_after step ys (desks_after step xs d)
+  desks_join [] ys d = refl
+  desks_join (x ∷ xs) ys d = desks_join xs ys (desk_after step x d)
 
   replies_push : (xs : List Action) (a : Action) (d : Desk M) → replies_to step (xs ++ (a ∷ [])) d ≡ replies_to step xs d ++ (reply_to step a (desks_after step xs d) ∷ [])
   replies_push [] a d = refl
@@ -75,31 +42,31 @@ placed_length (x ∷ rs) [] = refl
 placed_length (x ∷ rs) (o ∷ old) = ap suc (placed_length rs old)
 
 -- one turn of the loop: the action at a place, from what was done of those before it
-module _ {M : Type 0} (step : Event → M → M) (xs : List Action) (i : ℕ) (a : Action) (l : i < length xs) (is : a ≡ get_or xs i a) (d now : Desk M) (old at : List Reply)
-    (desks : now ≡ desks_after step (take i xs) d) (told : at ≡ placed (replies_to step (take i xs) d) old) where
-  one_more : take (i + 1) xs ≡ take i xs ++ (a ∷ [])
-  one_more = take_more xs i a l ∙ ap (λ x. take i xs ++ (x ∷ [])) (sym is)
+module _ {M : Type 0} (step : Event → M → M) (xs : List Action) (i : ℕ) (a : Action) (d : Desk M) where
+  one_more : i < length xs → a ≡ get_or xs i a → take (i + 1) xs ≡ take i xs ++ (a ∷ [])
+  one_more l is = take_more xs i a l ∙ ap (λ x. take i xs ++ (x ∷ [])) (sym is)
 
-  pub desk_turn : (e : Desk M) → e ≡ desk_after step a now → e ≡ desks_after step (take (i + 1) xs) d
-  desk_turn e f = f ∙ ap (desk_after step a) desks ∙ sym (desks_push step (take i xs) a d) ∙ ap (λ ys. desks_after step ys d) (sym one_more)
+  pub desks_more : i < length xs → a ≡ get_or xs i a → desk_after step a (desks_after step (take i xs) d) ≡ desks_after step (take (i + 1) xs) d
+  desks_more l is = sym (desks_join step (take i xs) (a ∷ []) d) ∙ ap (λ ys. desks_after step ys d) (sym (one_more l is))
 
-  all_replies : (r : Reply) → r ≡ reply_to step a now → placed (replies_to step (take i xs) d ++ (r ∷ [])) old ≡ placed (replies_to step (take (i + 1) xs) d) old
-  all_replies r f =
-      ap (λ x. placed (replies_to step (take i xs) d ++ (x ∷ [])) old) (f ∙ ap (reply_to step a) desks)
-      ∙ ap (λ rs. placed rs old) (sym (replies_push step (take i xs) a d) ∙ ap (λ ys. replies_to step ys d) (sym one_more))
+  all_replies : i < length xs → a ≡ get_or xs i a → replies_to step (take i xs) d ++ (reply_to step a (desks_after step (take i xs) d) ∷ []) ≡ replies_to step (take (i + 1) xs) d
+  all_replies l is = sym (replies_push step (take i xs) a d) ∙ ap (λ ys. replies_to step ys d) (sym (one_more l is))
 
-  count : length (replies_to step (take i xs) d) ≡ i
-  count = replies_length step (take i xs) d ∙ length-take-le i xs (omega arith)
+  count : i < length xs → length (replies_to step (take i xs) d) ≡ i
+  count l = replies_length step (take i xs) d ∙ length-take-le i xs (omega arith)
 
-  pub reply_placed : (r : Reply) → r ≡ reply_to step a now → cond (ltb i (length at)) (set at i r) at ≡ placed (replies_to step (take (i + 1) xs) d) old
-  reply_placed r f =
-      let n = placed_length (replies_to step (take i xs) d) old in
-      let t : length at ≡ length old = ap length told ∙ n in
-      let c = count in
-      cond_both (ltb i (length at)) (set at i r) at (λ ys. ys ≡ placed (replies_to step (take (i + 1) xs) d) old)
+  pub replies_more : (old : List Reply) → i < length xs → a ≡ get_or xs i a
+      → cond (ltb i (length (placed (replies_to step (take i xs) d) old))) (set (placed (replies_to step (take i xs) d) old) i (reply_to step a (desks_after step (take i xs) d))) (placed (replies_to step (take i xs) d) old)
+      ≡ placed (replies_to step (take (i + 1) xs) d) old
+  replies_more old l is =
+      let rs = replies_to step (take i xs) d in
+      let r = reply_to step a (desks_after step (take i xs) d) in
+      let n = placed_length rs old in
+      let c = count l in
+      cond_both (ltb i (length (placed rs old))) (set (placed rs old) i r) (placed rs old) (λ ys. ys ≡ placed (replies_to step (take (i + 1) xs) d) old)
       (λ e.
-      let room = ltb-true i (length at) e in
-      ap (λ x. set x i r) told ∙ placed_set (replies_to step (take i xs) d) old r i count (omega arith) ∙ all_replies r f)
+      let room = ltb-true i (length (placed rs old)) e in
+      placed_set rs old r i c (omega arith) ∙ ap (λ rs. placed rs old) (all_replies l is))
       (λ e.
-      let full = ltb-false i (length at) e in
-      told ∙ placed_past (replies_to step (take i xs) d) old r (omega arith) ∙ all_replies r f)
+      let full = ltb-false i (length (placed rs old)) e in
+      placed_past rs old r (omega arith) ∙ ap (λ rs. placed rs old) (all_replies l is))

@@ -1,14 +1,13 @@
 -- What an operator's actions come to.
-use Rattle.std.specs.Prelude.{◌≡◌, ℕ, true, cond, List, [], ◌∷◌, is_some, is_ok, IfSome, Some, None, Ok, Err, vec_items, Option, Result}
-use Rattle.std.specs.Option.{option_map}
-use Rattle.std.specs.Result.{result_ok, result_err}
-use Rattle.std.specs.Result as results
+use Rattle.std.specs.Prelude.{ℕ, List, [], ◌∷◌, ◌++◌, Some, None, vec_items, Option, Result}
+use Rattle.std.specs.Option.{option_map, option_and_then}
+use Rattle.std.specs.Result.{result_ok}
 use Rattle.sink.specs.Events.{Event}
 use Rattle.sink.specs.declared.Sink.{Ghosts as Sink}
 use Rattle.shelf.specs.declared.Shelf.{Ghosts as Shelf}
-use Rattle.order.specs.Machine.{History}
+use Rattle.order.specs.Machine.{Call, History}
+use Rattle.order.specs.Promise.{Making}
 use Rattle.handover.specs.declared.fault.ChannelFault.{ChannelFault}
-use Rattle.handover.specs.declared.fault.ChannelFault.TheVariants.{Owed}
 use Rattle.handover.specs.Words.{either, answer}
 use Rattle.channel.specs.declared.claim.Claim.{Claim}
 use Rattle.channel.specs.States.{State}
@@ -30,11 +29,11 @@ pub record Desk (M : Type 0) : Type 0 where
   pub hand : Option Claim
   pub buffer : List ℕ
 
--- The call that an action makes, if it makes one: no claim is asked for while one is in hand, and none is settled where none is.
+-- The call that an action makes, if it makes one: none is settled where no claim is in hand.
 abbrev pub asks : {M : Type 0} → Action → Desk M → Option Ask
 asks (Make number source first) d = Some (make number (vec_items source) first)
 asks (Offer p) d = Some (offer (vec_items p) d.buffer)
-asks (Claims time) d = cond (is_some d.hand) None (Some (claim time d.buffer))
+asks (Claims time) d = Some (claim time d.buffer)
 asks Settle d = option_map settle d.hand
 asks (Restart n) d = Some (restart n)
 
@@ -43,24 +42,26 @@ abbrev pub hand_after : {M : Type 0} → Ask → State M → Option Claim → Op
 hand_after (make number source first) c h = h
 hand_after (offer p scratch) c h = h
 hand_after (claim time buffer) c h = either (result_ok (claim_answer c buffer)) h (λ k. Some k)
-hand_after (settle k) c h = option_map (λ e. e.1) (result_err (settle_answer c k))
+hand_after (settle k) c h = None
 hand_after (restart n) c h = h
 
 -- what a claim asks for
 abbrev pub asked_of : Claim → Asked
 asked_of k = record { channel = k.channel; serial = k.serial; begin = k.begin; end = k.end }
 
--- the reply to a claim: none is asked for while one is in hand
+-- the reply to a claim
 abbrev pub claim_reply : {M : Type 0} → Desk M → Result Asked ChannelFault
-claim_reply d = cond (is_some d.hand) (Err Owed) (answer (claim_answer d.channel d.buffer) asked_of)
+claim_reply d = answer (claim_answer d.channel d.buffer) asked_of
 
--- the reply to a settlement of the claim in hand, if one is
-abbrev pub settle_reply : {M : Type 0} → Desk M → Option (Result ℕ ChannelFault)
-settle_reply d = option_map (λ k. results.result_map_both (λ n. n) (λ e. e.0) (settle_answer d.channel k)) d.hand
+-- the reply to a settlement: how many numbers of the claim in hand are missing, if one is in hand
+abbrev pub settle_reply : {M : Type 0} → Desk M → Option ℕ
+settle_reply d = option_and_then (λ k. result_ok (settle_answer d.channel k)) d.hand
 
--- the answer to a closing of the desk: the claim in hand is settled, or given back with the refusal
-abbrev pub close_answer : {M : Type 0} → Desk M → Result (Unit {0}) (ChannelFault × Claim)
-close_answer d = either d.hand (Ok tt) (λ k. results.result_map_both (λ n. tt) (λ e. e) (settle_answer d.channel k))
+-- the oldest of some calls, the newest first, is a making that was taken
+abbrev pub Opens : List Call → Type 0
+Opens [] = ⊥
+Opens (x ∷ []) = Making x
+Opens (x ∷ y ∷ calls) = Opens (y ∷ calls)
 
 module _ {M : Type 0} (step : Event → M → M) where
   -- the buffer after a call
@@ -88,12 +89,12 @@ module _ {M : Type 0} (step : Event → M → M) where
   reply_to (Make number source first) d = Made (make_answer d.channel (vec_items source) first)
   reply_to (Offer p) d = Offered (offer_answer step d.channel (vec_items p) d.buffer)
   reply_to (Claims time) d = Claimed (claim_reply d)
-  reply_to Settle d = either (settle_reply d) NoClaim (λ r. Settled r)
+  reply_to Settle d = either (settle_reply d) NoClaim (λ n. Settled n)
   reply_to (Restart n) d = Restarted (restart_answer d.channel n)
 
-  -- the history that an action makes of an earlier one: its call, if it made one
-  abbrev pub noted_by : Action → Desk M → History → History
-  noted_by a d h = either (asks a d) h (λ x. noted x (taken step x d.channel) ∷ h)
+  -- the call that it made, if it made one, and whether that was taken
+  abbrev pub call_of : Action → Desk M → List Call
+  call_of a d = either (asks a d) [] (λ x. noted x (taken step x d.channel) ∷ [])
 
   -- what the operator has after a list of actions, the first action first
   abbrev pub desks_after : List Action → Desk M → Desk M
@@ -105,20 +106,16 @@ module _ {M : Type 0} (step : Event → M → M) where
   replies_to [] d = []
   replies_to (a ∷ more) d = reply_to a d ∷ replies_to more (desk_after a d)
 
-  -- the history that they make of an earlier one
-  abbrev pub history_of : List Action → Desk M → History → History
-  history_of [] d h = h
-  history_of (a ∷ more) d h = history_of more (desk_after a d) (noted_by a d h)
+  -- the calls that they made, the newest first
+  abbrev pub calls_of : List Action → Desk M → List Call
+  calls_of [] d = []
+  calls_of (a ∷ more) d = calls_of more (desk_after a d) ++ call_of a d
 
-  -- THE CLAUSE of a list of actions that leads from one desk to another: whatever history the channel followed, it follows that history with the calls
-  -- of the list, and keeps the promise of it
-  abbrev pub RunsOn : List Action → Desk M → Desk M → Type 0
-  RunsOn xs d e = (before : M) (h : History) → Follows step before h d.channel
-      → Follows step before (history_of xs d h) e.channel × Promise step before (history_of xs d h) e.channel
-
--- THE CLAIM IN HAND can be settled: it is the one that is out of the channel
-abbrev pub IsOwn : {M : Type 0} → State M → Option Claim → Type 0
-IsOwn c h = IfSome h (λ k. is_ok (settle_answer c k) ≡ true)
+  -- THE CLAUSE of calls, the newest first, that lead from one state of a channel to another. Whatever history the channel followed, it follows that history with the
+  -- calls added, and keeps the promise of it. Calls that open the channel are a history of their own, from what the sink meant before.
+  pub record GoesBy (calls : List Call) (c d : State M) : Type 0 where
+    pub on : (before : M) (h : History) → Follows step before h c → Follows step before (calls ++ h) d × Promise step before (calls ++ h) d
+    pub begins : Opens calls → Follows step c.sink calls d × Promise step c.sink calls d
 
 -- the first replies put in the first places of a table, as many as it has
 abbrev pub placed : List Reply → List Reply → List Reply

@@ -52,7 +52,8 @@ pub enum Reply {
     Made(Result<(), ChannelFault>),
     Offered(Result<Taken, OfferFault>),
     Claimed(Result<Asked, ChannelFault>),
-    Settled(Result<u32, ChannelFault>),
+    /// How many numbers of the claim that was in hand are missing.
+    Settled(u32),
     Restarted(Result<(), ChannelFault>),
     /// No claim is in hand, so none was settled.
     // Kept as a reply of its own: no call was made, so it is no settlement.

@@ -3,6 +3,7 @@
 
 mod action;
 mod desk;
+mod place;
 
 pub use action::{Action, Asked, Reply};
 pub use desk::Desk;

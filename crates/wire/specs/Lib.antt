@@ -6,4 +6,5 @@ pub mod Points
 pub mod Shifted
 pub mod Reading
 pub mod Request
+pub mod Sources
 pub mod Laws

@@ -15,4 +15,4 @@ pub use point::{DeltaPoint, PricePoint, Reason, Side, UnknownLetter};
 pub use points::{Point, Points};
 pub use price::billionths;
 pub use reader::read;
-pub use request::{REQUEST, is_source, write_request};
+pub use request::{REQUEST, SourceId, write_request};

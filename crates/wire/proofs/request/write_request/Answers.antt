@@ -1,17 +1,17 @@
-use Rattle.std.proofs.Common.{◌≡◌, true, ◌∙◌, arith, rules}
-use Rattle.wire.specs.Request.{source_right}
-use Rattle.wire.proofs.Requests.{laid, requests}
+use Rattle.std.proofs.Common.{ap, ◌∙◌, arith, rules}
+use Rattle.wire.specs.Request.{source_right, request}
+use Rattle.wire.specs.Sources.{source_bytes}
+use Rattle.wire.proofs.Requests.{made, wrote, requests}
 use Rattle.wire.proofs.request.write_request.Goals as goal
 
 pub returns : goal.returns
 returns c =
-    let b = c.args.buffer.now in
     let s = c.args.source.now in
-    let r : source_right s ≡ true = search rules in
-    let e = laid b _ _ s c.args.time c.args.begin c.args.end (omega arith) r
-    (c.copy_from_slice.ensures.after ∙ c.unsigned_request-message.ensures) c.copy_from_slice-2.ensures.after in
+    let m = made (source_right s) (source_bytes c.in_ok-source.source) s c.in_ok-source.ensures in
+    let e = wrote c.args.buffer.now c.write_front.new.buffer c.request.result s c.args.time c.args.begin c.args.end (omega arith) m.0 (search rules)
+    (c.request.ensures.bytes ∙ ap (request c.args.time c.args.begin c.args.end) m.1) c.write_front.ensures in
     record {
       answer = search rules;
       after = e;
-      fields = λ _. requests b _ s c.args.time c.args.begin c.args.end (omega arith) (omega arith) (omega arith) (omega arith) r e;
+      fields = λ _. requests c.args.buffer.now _ s c.args.time c.args.begin c.args.end (omega arith) (omega arith) (omega arith) (omega arith) m.0 e;
     }

@@ -1,0 +1,3 @@
+pub mod Table
+pub mod Sample
+pub mod Cases

@@ -1,0 +1,4 @@
+pub mod Packets
+pub mod Table
+pub mod Sample
+pub mod Cases
