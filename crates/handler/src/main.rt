@@ -2,7 +2,7 @@
 #![tactic(auto)]
 
 use any_shelf::AnyShelf;
-use books::{Book, BookKeeper, Level, Tables};
+use books::{BookKeeper, BookRow, Level, Tables};
 use channel::Channel;
 use operator::Desk;
 use script::{Command, ParseError, Setup, Source, open_script, parse};
@@ -92,7 +92,7 @@ impl Script<'_> {
     fn serve_tables(&mut self, setup: Setup, shelf: AnyShelf) -> anyhow::Result<Option<Setup>> {
         let alloc = self.rt.alloc();
         let sizes = table_sizes(setup);
-        let mut books = vec![in alloc; Book::UNKNOWN; sizes.books]?;
+        let mut books = vec![in alloc; BookRow::UNKNOWN; sizes.books]?;
         let mut buys = vec![in alloc; Level::default(); sizes.levels]?;
         let mut sells = vec![in alloc; Level::default(); sizes.levels]?;
         let mut rows = vec![in alloc; Row::default(); sizes.rows]?;
@@ -112,7 +112,7 @@ impl Script<'_> {
                 let _closed = desk.close();
                 end
             }
-            Err(fault) => self.refuse(fault),
+            Err(refused) => self.refuse(refused.fault),
         }
     }
 

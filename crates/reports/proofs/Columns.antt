@@ -6,7 +6,7 @@ use Rattle.std.specs.Fmt.{digits, digits_onto, digit_glyph}
 use Rattle.wire.specs.declared.point.Side.{Side}
 use Rattle.wire.specs.declared.point.Side.TheVariants.{Buy, Sell}
 use Rattle.wire.specs.Texts.{side_text}
-use Rattle.books.specs.declared.level.Level.{Level}
+use Rattle.book_model.specs.declared.level.Level.{Level}
 use Rattle.operator.specs.declared.action.Asked.{Asked}
 use Rattle.console.specs.Texts.{places_from}
 use Rattle.replies.specs.Hex.{hex_digit, hex_text}

@@ -3,9 +3,9 @@ use Rattle.std.specs.Prelude.{ℕ, ◌+◌, Bool, true, false, not, List, [], �
 use Rattle.wire.specs.declared.point.Side.{Side}
 use Rattle.wire.specs.declared.point.Side.TheVariants.{Buy, Sell}
 use Rattle.wire.specs.Texts.{side_text}
-use Rattle.books.specs.declared.level.Level.{Level}
-use Rattle.books.specs.Entering.{Known}
-use Rattle.books.specs.Keepers.{book_of}
+use Rattle.book_model.specs.declared.level.Level.{Level}
+use Rattle.book_model.specs.Entering.{Known}
+use Rattle.book_model.specs.Keepers.{book_of}
 use Rattle.console.specs.Texts.{price_text}
 use Rattle.replies.specs.Reads.{whole_text}
 use Rattle.reports.specs.Each.{each_to, count_to}

@@ -1,6 +1,7 @@
 //! The books as a day leaves them.
 ghost use Rattle.std.specs.Prelude.{◌≡◌, true, Some};
-ghost use Rattle.books.specs.Keepers.{keeper_means, book_of};
+ghost use Rattle.book_model.specs.Keepers.{book_of};
+ghost use Rattle.books.specs.Keepers.{keeper_means};
 ghost use Rattle.reports.specs.DayBook.{level_row, side_rows, book_rows, day_book_text, has_state, count_state};
 
 use books::{BookKeeper, Level};
