@@ -292,13 +292,16 @@ fn run_trial(
         index: 7,
         executed: 7
     }; usize::from(room)]?;
-    let tables = Tables::check(
+    let checked = Tables::check(
         books,
         buys.as_mut_slice(),
         sells.as_mut_slice(),
         usize::from(depth),
-    )
-    .map_err(|refused| refused.fault)?;
+    );
+    let tables = match checked {
+        Ok(tables) => tables,
+        Err(refused) => return Err(refused.fault.into()),
+    };
     let mut trial = Trial {
         alloc,
         sinks: Twin::new(BookKeeper::new(tables), Tally::new(rows.as_mut_slice())),
@@ -311,7 +314,9 @@ fn run_trial(
         trial.event(number)?;
     }
     let Trial {
-        mut sinks, beside, ..
+        mut sinks,
+        beside,
+        ..
     } = trial;
     ensure!(
         beside.used_refreshes > 100 && beside.whole_seen > 100 && beside.overflows > 0,
