@@ -5,7 +5,7 @@ mod feed;
 mod plain;
 
 use anyhow::{anyhow, ensure};
-use books::{Book, BookKeeper, Level, Tables};
+use books::{BookKeeper, BookRow, Level, Tables};
 use feed::{BOOKS, Kind, Update};
 use plain::{Sides, Volumes};
 use random::Random;
@@ -21,14 +21,7 @@ const MAPPING: [u8; 30] = [
     0, 28, 0, 35, 0, 0, 0, 1, 0, 0, 0, 0, 115, 1, 1, 0, 0, 0, 0, 0, 0, 0, 0, 0, 0, 0, 0, 0, 0, 0,
 ];
 
-// What tables held before a keeper had them.
-const OLD_BOOK: Book = Book {
-    whole: true,
-    touched: 9,
-    buys: 1,
-    sells: 1,
-};
-
+// What the levels of tables held before a keeper had them.
 const OLD_LEVEL: Level = Level {
     price: 7,
     volume: 7,
@@ -274,10 +267,25 @@ fn same_tally(tally: &Tally<'_>, owed: &Volumes) -> anyhow::Result<()> {
     Ok(())
 }
 
-fn run_trial(rt: &HostRuntime, depth: u16, room: u16, prices: u32) -> anyhow::Result<()> {
+// Whether nothing is known of any book in tables.
+fn all_unknown(tables: &Tables<'_, '_, '_>) -> bool {
+    (1..=BOOKS).all(|index| {
+        tables.book(index).is_some_and(|book| !book.whole)
+            && tables.levels(index, Side::Buy).is_empty()
+            && tables.levels(index, Side::Sell).is_empty()
+    })
+}
+
+// The rows of the books are as an earlier trial left them.
+fn run_trial(
+    rt: &HostRuntime,
+    books: &mut [BookRow],
+    depth: u16,
+    room: u16,
+    prices: u32,
+) -> anyhow::Result<()> {
     let alloc = rt.alloc();
     let levels = usize::from(BOOKS) * usize::from(depth);
-    let mut books = vec![in alloc; OLD_BOOK; usize::from(BOOKS)]?;
     let mut buys = vec![in alloc; OLD_LEVEL; levels]?;
     let mut sells = vec![in alloc; OLD_LEVEL; levels]?;
     let mut rows = vec![in alloc; Row {
@@ -285,11 +293,12 @@ fn run_trial(rt: &HostRuntime, depth: u16, room: u16, prices: u32) -> anyhow::Re
         executed: 7
     }; usize::from(room)]?;
     let tables = Tables::check(
-        books.as_mut_slice(),
+        books,
         buys.as_mut_slice(),
         sells.as_mut_slice(),
         usize::from(depth),
-    )?;
+    )
+    .map_err(|refused| refused.fault)?;
     let mut trial = Trial {
         alloc,
         sinks: Twin::new(BookKeeper::new(tables), Tally::new(rows.as_mut_slice())),
@@ -301,37 +310,28 @@ fn run_trial(rt: &HostRuntime, depth: u16, room: u16, prices: u32) -> anyhow::Re
     for number in 1..=EVENTS {
         trial.event(number)?;
     }
-    let beside = &trial.beside;
+    let Trial {
+        mut sinks, beside, ..
+    } = trial;
     ensure!(
         beside.used_refreshes > 100 && beside.whole_seen > 100 && beside.overflows > 0,
         "a case was never met"
+    );
+    sinks.loss(EVENTS + 1);
+    let (keeper, _tally) = sinks.into_parts();
+    ensure!(
+        all_unknown(&keeper.into_tables()),
+        "a lost book is given back"
     );
     println!(rt; "depth {depth}, rows {room}: {EVENTS} events agree")?;
     Ok(())
 }
 
-// Tables that are refused hold what they held.
-fn refused_tables() -> anyhow::Result<()> {
-    let mut books = [OLD_BOOK; 1];
-    let mut buys = [OLD_LEVEL; 1];
-    let mut sells = [OLD_LEVEL; 2];
-    let Err(fault) = Tables::check(&mut books, &mut buys, &mut sells, 1) else {
-        return Err(anyhow!("tables taken"));
-    };
-    ensure!(fault.number() == 22, "the refusal's number");
-    ensure!(books == [OLD_BOOK; 1], "a refused book is changed");
-    ensure!(
-        buys == [OLD_LEVEL; 1] && sells == [OLD_LEVEL; 2],
-        "a refused level is changed"
-    );
-    Ok(())
-}
-
 fn run(rt: &HostRuntime) -> anyhow::Result<()> {
-    refused_tables()?;
-    run_trial(rt, 1, 2, 3)?;
-    run_trial(rt, 2, 6, 4)?;
-    run_trial(rt, 8, 6, 16)
+    let mut books = [BookRow::UNKNOWN; BOOKS as usize];
+    run_trial(rt, &mut books, 1, 2, 3)?;
+    run_trial(rt, &mut books, 2, 6, 4)?;
+    run_trial(rt, &mut books, 8, 6, 16)
 }
 
 fn main(rt: HostRuntime) -> anyhow::Result<()> {

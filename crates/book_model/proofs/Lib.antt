@@ -1,3 +1,4 @@
 pub mod Sides
+pub mod Books
 pub mod Prices
 pub mod Orders

@@ -1,7 +1,6 @@
 -- The laws of a keeper.
-use Rattle.std.proofs.Common.{◌≡◌, ℕ, zero, suc, ◌<◌, ◌≤◌, Bool, true, false, leb, List, [], ◌∷◌, length, get_or, set, replicate, Some, Option, IsSomeAnd, sym, refl, ap, ◌∙◌, subst, arith}
-use Rattle.std.specs.List.{slice_get, AllByRecursion}
-use Rattle.std.proofs.ByRecursion.{All-set}
+use Rattle.std.proofs.Common.{◌≡◌, ℕ, zero, suc, ◌<◌, ◌≤◌, Bool, true, false, leb, List, [], ◌∷◌, length, get_or, set, Some, Option, IsSomeAnd, sym, refl, ap, ◌∙◌, subst, arith}
+use Rattle.std.specs.List.{slice_get}
 use Rattle.std.proofs.lemmas.Bool.{cond_both, cond-true, leb-true, le-leb}
 use Rattle.wire.specs.declared.point.Side.{Side}
 use Rattle.wire.specs.declared.point.Side.TheVariants.{Buy, Sell}
@@ -13,9 +12,10 @@ use Rattle.book_model.specs.declared.start.Start.{Start}
 use Rattle.book_model.specs.declared.start.Start.TheVariants as start
 use Rattle.book_model.specs.Levels.{price_of, before, changed}
 use Rattle.book_model.specs.Entering.{Known, unknown, emptied, touched_at, levels, put, put_all, limited, filled, begun, taken, told, full_points, delta_points}
-use Rattle.book_model.specs.Keepers.{Kept, keeper_step, at_book, heard, book_of}
+use Rattle.book_model.specs.Keepers.{Kept, keeper_step, heard, book_of}
 use Rattle.book_model.specs.Laws.{Ordered, Laddered, InOrder, PointsFit, AfterPoints, Keeping}
 use Rattle.book_model.proofs.Sides.{whole_with, touched_with, changed_sorted, none_sorted, begun_sorted}
+use Rattle.book_model.proofs.Books.{all_none, one_of, all_changed}
 use Rattle.book_model.proofs.Prices.{all_after}
 
 -- both sides of a book are in order
@@ -25,19 +25,6 @@ Both d b = (s : Side) → Laddered d b s
 none : (d : ℕ) (w : Bool) (t : ℕ) → Both d (emptied w t)
 none d w t Buy = record { sorted = tt; few = omega arith }
 none d w t Sell = record { sorted = tt; few = omega arith }
-
-all_none : (d n : ℕ) → AllByRecursion (Both d) (replicate n unknown)
-all_none d zero = tt
-all_none d (suc n) = (none d false 0, all_none d n)
-
-one_of : (d : ℕ) (bs : List Known) (i : ℕ) → AllByRecursion (Both d) bs → Both d (get_or bs i unknown)
-one_of d [] i a = none d false 0
-one_of d (b ∷ bs) zero a = a.0
-one_of d (b ∷ bs) (suc i) a = one_of d bs i a.1
-
-at_ordered : (i : ℕ) (f : Known → Known) (k : Kept) → ((b : Known) → Both k.depth b → Both k.depth (f b)) → InOrder k → InOrder (at_book i f k)
-at_ordered zero f k h o = record { all = o.all }
-at_ordered (suc i) f k h o = record { all = All-set (Both k.depth) k.books i _ (h _ (one_of k.depth k.books i o.all)) o.all }
 
 -- what a put leaves
 put_whole : (s : Side) (l : Level) (b : Known) → (put s l b).whole ≡ b.whole
@@ -106,7 +93,7 @@ module _ (d : ℕ) where
   told_ordered s ps b o = cond_both (taken s b) _ _ (Both d) (λ _. filled_ordered ps (begun s b) (begun_ordered s b o)) (λ _. o)
 
 heard_ordered : (i : ℕ) (s : Start) (ps : List Point) (k : Kept) → InOrder k → InOrder (heard i s ps k)
-heard_ordered i s ps k o = at_ordered i (told k.depth s ps) k (told_ordered k.depth s ps) o
+heard_ordered i s ps k o = record { all = all_changed (Both k.depth) (none k.depth false 0) i (told k.depth s ps) k.books (told_ordered k.depth s ps) o.all }
 
 order : (e : Event) (k : Kept) → InOrder k → InOrder (keeper_step e k)
 order (data_of n (full i s ps)) k o = heard_ordered i (start.Full n) (full_points s ps) k o
@@ -114,13 +101,13 @@ order (data_of n (delta i s ps)) k o = heard_ordered i (start.Delta n) (delta_po
 order (data_of n (reset m)) k o = o
 order (data_of n (unavailable b e)) k o = o
 order (data_of n mapping) k o = o
-order (loss_of n) k o = record { all = all_none k.depth (length k.books) }
+order (loss_of n) k o = record { all = all_none (Both k.depth) (none k.depth false 0) (length k.books) }
 order (refresh_of n (full i s ps)) k o = cond_both (leb k.mark n) _ _ InOrder (λ _. heard_ordered i (start.Refresh n) (full_points s ps) k o) (λ _. o)
 order (refresh_of n (delta i s ps)) k o = o
 order (refresh_of n (reset m)) k o = o
 order (refresh_of n (unavailable b e)) k o = o
 order (refresh_of n mapping) k o = o
-order (restart_of n) k o = record { all = all_none k.depth (length k.books) }
+order (restart_of n) k o = record { all = all_none (Both k.depth) (none k.depth false 0) (length k.books) }
 
 after_all : (ps : List Point) (b : Known) → Ordered b → AfterPoints ps b (put_all ps b)
 after_all ps b o = record { whole = all_whole ps b; touched = all_touched ps b; each = all_after ps b o }
@@ -138,7 +125,7 @@ refresh_is n i s ps k b e m t f =
 pub keeps : Keeping
 keeps =
     record {
-      begins = λ d n. record { all = all_none d n };
+      begins = λ d n. record { all = all_none (Both d) (none d false 0) n };
       order = order;
       full_known = full_is;
       refresh_known = refresh_is;
@@ -147,6 +134,6 @@ keeps =
       refresh_levels = λ n i s ps k b e m t f. is_some_and _ _ _ (refresh_is n i s ps k b e m t f) (after_all (full_points s ps) (emptied true b.touched) (none_sorted true b.touched));
       delta_levels = λ n i s ps k b o e w f.
           let at = nth_some k.books i unknown b e in
-          let both = subst (Both k.depth) at.1 (one_of k.depth k.books i o.all) in
+          let both = subst (Both k.depth) at.1 (one_of (Both k.depth) (none k.depth false 0) k.books i o.all) in
           is_some_and _ _ _ (heard_fit i (start.Delta n) (delta_points s ps) k b e refl w f) (after_all (delta_points s ps) (touched_at n b) (begun_sorted (start.Delta n) b (λ s. (both s).sorted)));
     }

@@ -46,11 +46,14 @@ pub none_sorted : (w : Bool) (t : ℕ) → Ordered (emptied w t)
 none_sorted w t Buy = tt
 none_sorted w t Sell = tt
 
+pub with_sorted : (s : Side) (xs : List Level) (b : Known) → Sorted price_of (before s) xs → Ordered b → Ordered (with_levels s xs b)
+with_sorted Buy xs b x o Buy = x
+with_sorted Buy xs b x o Sell = o Sell
+with_sorted Sell xs b x o Buy = o Buy
+with_sorted Sell xs b x o Sell = x
+
 pub put_sorted : (s : Side) (l : Level) (b : Known) → Ordered b → Ordered (put s l b)
-put_sorted Buy l b o Buy = changed_sorted Buy l b.buys (o Buy)
-put_sorted Buy l b o Sell = o Sell
-put_sorted Sell l b o Buy = o Buy
-put_sorted Sell l b o Sell = changed_sorted Sell l b.sells (o Sell)
+put_sorted s l b o = with_sorted s (changed price_of (before s) l (levels s b)) b (changed_sorted s l (levels s b) (o s)) o
 
 pub limited_sorted : (d : ℕ) (s : Side) (l : Level) (b : Known) → Ordered b → Ordered (limited d s l b)
 limited_sorted d s l b o = cond_both (leb (length (levels s (put s l b))) d) _ _ Ordered (λ _. put_sorted s l b o) (λ _. none_sorted false b.touched)

@@ -3,7 +3,7 @@ use Rattle.std.specs.Prelude.{ℕ, Bool, true, false, cond, List, [], ◌∷◌,
 use Rattle.wire.specs.declared.point.Side.{Side}
 use Rattle.wire.specs.declared.point.Side.TheVariants.{Buy, Sell}
 use Rattle.wire.specs.declared.point.PricePoint.{PricePoint}
-use Rattle.wire.specs.Points.{points, full_at, delta_at}
+use Rattle.wire.specs.Points.{points_in_full, points_in_delta}
 use Rattle.book_model.specs.declared.level.Level.{Level}
 use Rattle.book_model.specs.declared.level.Point.{Point}
 use Rattle.book_model.specs.declared.start.Start.{Start}
@@ -64,11 +64,11 @@ points_of level scale ps = map (λ p. named scale (level p)) ps
 
 -- the points of a full update, at the scale of the message
 abbrev pub full_points : ℕ → List ℕ → List Point
-full_points scale bs = points_of (λ p. p) scale (points 12 full_at bs)
+full_points scale bs = points_of (λ p. p) scale (points_in_full bs)
 
 -- the points of a delta, at the scale of the message
 abbrev pub delta_points : ℕ → List ℕ → List Point
-delta_points scale bs = points_of (λ p. p.level) scale (points 28 delta_at bs)
+delta_points scale bs = points_of (λ p. p.level) scale (points_in_delta bs)
 
 -- a book as a message with points begins
 abbrev pub begun : Start → Known → Known

@@ -6,23 +6,18 @@ use Rattle.std.proofs.lemmas.Bool.{cond-true, cond-false, both_ways, le-leb}
 use Rattle.std.proofs.lemmas.List.{take_more_set, length-append, length-take-le}
 use Rattle.wire.specs.declared.point.Side.{Side}
 use Rattle.wire.specs.declared.point.Side.TheVariants.{Buy, Sell}
-use Rattle.ladder.specs.Laws.{Sorted, inserted}
-use Rattle.ladder.proofs.Orders.{entered_is, entered_sorted}
-use Rattle.ladder.proofs.Numbers.{rising_transitive, rising_total}
-use Rattle.books.specs.declared.level.Level.{Level}
-use Rattle.books.specs.declared.level.Point.{Point}
-use Rattle.books.specs.Levels.{price_of, before, changed}
-use Rattle.books.specs.Entering.{Known, levels, with_levels, put, filled}
+use Rattle.rank.specs.Rows.{Sorted, inserted}
+use Rattle.rank.proofs.Numbers.{rising_transitive}
+use Rattle.book_model.specs.declared.level.Level.{Level}
+use Rattle.book_model.specs.declared.level.Point.{Point}
+use Rattle.book_model.specs.Levels.{price_of, before, changed}
+use Rattle.book_model.specs.Entering.{Known, levels, with_levels, put, filled}
 use Rattle.books.specs.Laying.{after, behind, pending}
-use Rattle.books.proofs.Sides.{levels_with, with_with, whole_with}
+use Rattle.book_model.proofs.Sides.{side_laws, levels_with, with_with, whole_with}
 
 side_transitive : (s : Side) (a b c : ℕ) → before s a b ≡ true → before s b c ≡ true → before s a c ≡ true
 side_transitive Buy a b c p q = rising_transitive c b a q p
 side_transitive Sell a b c p q = rising_transitive a b c p q
-
-side_total : (s : Side) (a b : ℕ) → before s a b ≡ false → before s b a ≡ false → a ≡ b
-side_total Buy a b p q = rising_total a b q p
-side_total Sell a b p q = rising_total a b p q
 
 -- a level after the last of levels in order is after each of them, and is entered behind them
 after_last : (s : Side) (l x : Level) (xs : List Level) → Sorted price_of (before s) (x ∷ xs) → after s l (slice_get (x ∷ xs) (length xs)) ≡ true
@@ -43,16 +38,11 @@ tested true a e = absurd (both_ways false refl e)
 tested false a e = (refl, e)
 
 module _ (s : Side) (l : Level) (xs : List Level) (o : Sorted price_of (before s) xs) (b : behind s l xs ≡ true) where
-  entered_behind : changed price_of (before s) l xs ≡ xs ++ l ∷ []
-  entered_behind =
-      let t = tested (eqb l.volume 0) _ b in
-      cond-false _ _ _ t.0 ∙ entered_is price_of (before s) (side_transitive s) (side_total s) l xs o ∙ inserted_behind s l xs o t.1
+  told_behind : changed price_of (before s) l xs ≡ xs ++ l ∷ []
+  told_behind = let t = tested (eqb l.volume 0) _ b in cond-false _ _ _ t.0 ∙ inserted_behind s l xs o t.1
 
   still_sorted : Sorted price_of (before s) (xs ++ l ∷ [])
-  still_sorted =
-      let t = tested (eqb l.volume 0) _ b in
-      subst (Sorted price_of (before s)) (entered_is price_of (before s) (side_transitive s) (side_total s) l xs o ∙ inserted_behind s l xs o t.1)
-      (entered_sorted price_of (before s) (side_transitive s) (side_total s) l xs o)
+  still_sorted = let t = tested (eqb l.volume 0) _ b in subst (Sorted price_of (before s)) (inserted_behind s l xs o t.1) ((side_laws s).inserted_sorted l xs o)
 
 -- a point of a side, behind all its levels, where there is room for one more
 module _ (s : Side) (d used : ℕ) (rows : List Level) (l : Level) (at : used < length rows) (e : length rows ≡ d) (o : Sorted price_of (before s) (take used rows)) (b : behind s l (take used rows) ≡ true) where
@@ -66,7 +56,7 @@ module _ (s : Side) (d used : ℕ) (rows : List Level) (l : Level) (at : used < 
   put_behind k =
       ap (λ zs. with_levels s (changed price_of (before s) l zs) (with_levels s (take used rows) k)) (levels_with s (take used rows) k)
       ∙ with_with s (take used rows) _ k
-      ∙ ap (λ zs. with_levels s zs k) (entered_behind s l (take used rows) o b ∙ sym one_more)
+      ∙ ap (λ zs. with_levels s zs k) (told_behind s l (take used rows) o b ∙ sym one_more)
 
   pub laid : (ps : List Point) (k : Known) → k.whole ≡ true
       → filled d (record { side = s; level = l } ∷ ps) (with_levels s (take used rows) k) ≡ filled d ps (with_levels s (take (used + 1) (set rows used l)) k)

@@ -1,16 +1,17 @@
 -- The points of a message, one after another, told to the book at i.
-use Rattle.std.proofs.Common.{◌≡◌, ℕ, suc, ◌<◌, true, false, List, [], ◌∷◌, length, get_or, map, set, sym, refl, ap, ◌∙◌, arith}
+use Rattle.std.proofs.Common.{◌≡◌, ℕ, suc, ◌<◌, true, false, List, [], ◌∷◌, length, get_or, set, sym, refl, ap, ◌∙◌, arith}
 use Rattle.std.proofs.lemmas.List.{set-set, set-get_or, get_or-set_same, length-set}
-use Rattle.books.specs.declared.level.Point.{Point}
+use Rattle.book_model.specs.declared.level.Point.{Point}
 use Rattle.books.specs.declared.tables.Tables.{Tables}
-use Rattle.books.specs.Entering.{Known, known, unknown, limited, filled, taken, begun, told, points_of, full_points, delta_points}
-use Rattle.books.specs.Keepers.{tabled, tables_known, changed_at, blank, Spot}
+use Rattle.book_model.specs.Entering.{Known, unknown, limited, filled, taken, begun, told}
+use Rattle.book_model.specs.Keepers.{changed_at}
+use Rattle.books.specs.Tabled.{known, blank, tabled}
+use Rattle.books.specs.Keepers.{tables_known, Spot}
 use Rattle.books.specs.Laying.{Leaves}
 use Rattle.std.proofs.lemmas.Bool.{cond-true, cond-false}
-use Rattle.wire.specs.Points.{points, full_at, delta_at}
-use Rattle.books.specs.declared.level.Level.{Level}
+use Rattle.book_model.specs.declared.level.Level.{Level}
 use Rattle.books.specs.declared.book.Book.{Book}
-use Rattle.books.specs.declared.book.Start.{Start}
+use Rattle.book_model.specs.declared.start.Start.{Start}
 use Rattle.books.proofs.Rows.{rooms, book_is, row_put}
 
 -- points do nothing to a book that is not whole
@@ -27,10 +28,10 @@ pub among : (t u : Tables) (i : ℕ) (a b : Known) → set (tables_known t) i a 
 among t u i a b e h = omega (arith, h, rooms t, rooms u, length-set (tables_known t) i a, length-set (tables_known u) i b, ap length e)
 
 module _ (t : Tables) (i : ℕ) (h : i < length t.books.now) where
-  pub stops : (ps : List Point) → (get_or t.books.now i blank).whole ≡ false → changed_at (suc i) (filled t.depth ps) (tables_known t) ≡ tables_known t
+  pub stops : (ps : List Point) → (get_or t.books.now i blank).book.whole ≡ false → changed_at (suc i) (filled t.depth ps) (tables_known t) ≡ tables_known t
   stops ps e = kept (tables_known t) i (filled t.depth ps) (not_whole t.depth ps _ (ap (λ b. b.whole) (book_is t i h blank) ∙ e))
 
-  pub goes_on : (u : Tables) (p : Point) (ps : List Point) → (get_or t.books.now i blank).whole ≡ true → tables_known u ≡ changed_at (suc i) (limited t.depth p.side p.level) (tables_known t)
+  pub goes_on : (u : Tables) (p : Point) (ps : List Point) → (get_or t.books.now i blank).book.whole ≡ true → tables_known u ≡ changed_at (suc i) (limited t.depth p.side p.level) (tables_known t)
       → changed_at (suc i) (filled t.depth ps) (tables_known u) ≡ changed_at (suc i) (filled t.depth (p ∷ ps)) (tables_known t)
   goes_on u p ps w e =
       let ks = tables_known t in
@@ -78,29 +79,16 @@ module _ (t : Tables) (n i : ℕ) (spot : Spot t n i) (s : Start) (ps : List Poi
   to : (f : Known → Known) → changed_at n f (tables_known t) ≡ changed_at (suc i) f (tables_known t)
   to f = ap (λ n. changed_at n f (tables_known t)) spot.next
 
-  pub untaken : ((xs ys : List Level) → taken s (known (get_or t.books.now i blank) xs ys) ≡ false) → tables_known t ≡ changed_at n (told t.depth s ps) (tables_known t)
+  pub untaken : ((xs ys : List Level) → taken s (known (get_or t.books.now i blank).book xs ys) ≡ false) → tables_known t ≡ changed_at n (told t.depth s ps) (tables_known t)
   untaken e = sym (to (told t.depth s ps) ∙ kept (tables_known t) i (told t.depth s ps) (cond-false _ _ _ (ap (taken s) (book_is t i lt blank) ∙ e _ _)))
 
-  pub tells : (b : Book) → ((xs ys : List Level) → (taken s (known (get_or t.books.now i blank) xs ys) ≡ true) × (known b xs ys ≡ begun s (known (get_or t.books.now i blank) xs ys)))
-      → changed_at (suc i) (filled t.depth ps) (tabled t.depth (set t.books.now i b) t.buys.now t.sells.now) ≡ changed_at n (told t.depth s ps) (tables_known t)
+  pub tells : (b : Book) → ((xs ys : List Level) → (taken s (known (get_or t.books.now i blank).book xs ys) ≡ true) × (known b xs ys ≡ begun s (known (get_or t.books.now i blank).book xs ys)))
+      → changed_at (suc i) (filled t.depth ps) (tabled t.depth (set t.books.now i (record { book = b })) t.buys.now t.sells.now) ≡ changed_at n (told t.depth s ps) (tables_known t)
   tells b e =
       let ks = tables_known t in
       let k = get_or ks i unknown in
       let taken : taken s k ≡ true = ap (taken s) (book_is t i lt blank) ∙ (e _ _).0 in
-      ap (changed_at (suc i) (filled t.depth ps)) (row_put t i lt b blank (begun s) (λ xs ys. (e xs ys).1))
+      ap (changed_at (suc i) (filled t.depth ps)) (row_put t i lt (record { book = b }) blank (begun s) (λ xs ys. (e xs ys).1))
       ∙ set-set ks i (begun s k) _
       ∙ ap (set ks i) (ap (filled t.depth ps) (get_or-set_same ks i (begun s k) unknown spot.among) ∙ sym (cond-true _ _ _ taken))
       ∙ sym (to (told t.depth s ps))
-
-map_map : {X Y Z : Type 0} (g : Y → Z) (f : X → Y) (xs : List X) → map g (map f xs) ≡ map (λ x. g (f x)) xs
-map_map g f [] = refl
-map_map g f (x ∷ xs) = ap (λ t. g (f x) ∷ t) (map_map g f xs)
-
--- the points that are told are those of the bytes
-pub full_is : (s : ℕ) (bs : List ℕ) → points_of (λ p. p) s (points 12 full_at bs) ≡ full_points s bs
-unfolding points
-full_is s bs = map_map _ _ _
-
-pub delta_is : (s : ℕ) (bs : List ℕ) → points_of (λ p. p.level) s (points 28 delta_at bs) ≡ delta_points s bs
-unfolding points
-delta_is s bs = map_map _ _ _

@@ -1,8 +1,7 @@
-pub mod Sides
 pub mod Parts
 pub mod Rows
 pub mod Filling
-pub mod Orders
 pub mod Limits
+pub mod Told
 mod Stale
 mod Behind

@@ -3,11 +3,11 @@ use Rattle.std.proofs.Common.{◌≡◌, ℕ, ◌<◌, ◌≤◌, false, List, l
 use Rattle.std.proofs.lemmas.Bool.{le-leb, lt-leb}
 use Rattle.std.proofs.lemmas.List.{length-take}
 use Rattle.wire.specs.declared.point.Side.{Side}
-use Rattle.ladder.specs.Ladders.{Holds}
-use Rattle.books.specs.declared.level.Level.{Level}
-use Rattle.books.specs.Levels.{price_of, before, changed}
-use Rattle.books.specs.Entering.{Known, emptied, levels, with_levels, put, limited}
-use Rattle.books.proofs.Sides.{levels_with}
+use Rattle.ladder.specs.Tables.{Holds}
+use Rattle.book_model.specs.declared.level.Level.{Level}
+use Rattle.book_model.specs.Levels.{price_of, before, changed}
+use Rattle.book_model.specs.Entering.{Known, emptied, levels, with_levels, put, limited}
+use Rattle.book_model.proofs.Sides.{levels_with}
 
 put_levels : (s : Side) (l : Level) (k : Known) → levels s (put s l k) ≡ changed price_of (before s) l (levels s k)
 put_levels s l k = levels_with s (changed price_of (before s) l (levels s k)) k

@@ -5,8 +5,10 @@ use Rattle.std.specs.List.{slice_get}
 use Rattle.wire.specs.declared.point.Side.{Side}
 use Rattle.wire.specs.declared.point.Side.TheVariants.{Buy, Sell}
 use Rattle.books.specs.declared.tables.Tables.{Tables}
-use Rattle.books.specs.Entering.{Known, unknown}
-use Rattle.books.specs.Keepers.{keeper_means, at_book, tables_known, changed_at, unless_stale, book_of, shown, levels_shown, blank}
+use Rattle.book_model.specs.Entering.{Known, unknown}
+use Rattle.book_model.specs.Keepers.{at_book, changed_at, book_of}
+use Rattle.books.specs.Tabled.{blank}
+use Rattle.books.specs.Keepers.{keeper_means, tables_known, unless_stale, shown, levels_shown}
 
 -- there are as many books
 pub as_many : (s : Bool) (bs : List Known) → length (unless_stale s bs) ≡ length bs
@@ -35,7 +37,7 @@ no_book zero s bs e = refl
 no_book (suc i) s bs e = get_past bs (unless_stale s bs) i (sym (as_many s bs)) e
 
 -- a book of which nothing is known
-pub stale_book : (n i : ℕ) (bs : List Known) → n ≡ suc i → i < length bs → shown (book_of n (replicate (length bs) unknown)) ≡ Some blank
+pub stale_book : (n i : ℕ) (bs : List Known) → n ≡ suc i → i < length bs → shown (book_of n (replicate (length bs) unknown)) ≡ Some blank.book
 stale_book n i bs e h = ap (λ n. shown (book_of n (replicate (length bs) unknown))) e ∙ ap shown (get_unknown (length bs) i h)
 
 no_levels : (s : Side) (m i : ℕ) → levels_shown s (slice_get (replicate m unknown) i) ≡ []
@@ -50,9 +52,9 @@ stale_levels s zero bs = refl
 stale_levels s (suc i) bs = no_levels s (length bs) i
 
 -- what a keeper is after its tables were told
-pub heard : (t u : Tables) (m i : ℕ) (f : Known → Known) (s : Bool) → s ≡ false → u.depth ≡ t.depth → tables_known u ≡ changed_at i f (tables_known t)
+pub tables_heard : (t u : Tables) (m i : ℕ) (f : Known → Known) (s : Bool) → s ≡ false → u.depth ≡ t.depth → tables_known u ≡ changed_at i f (tables_known t)
     → keeper_means (record { tables = u; mark = m; stale = s }) ≡ at_book i f (keeper_means (record { tables = t; mark = m; stale = s }))
-heard t u m i f true c e h = cc
-heard t u m i f false c e h =
+tables_heard t u m i f true c e h = cc
+tables_heard t u m i f false c e h =
     ap (λ d. record { depth = d; mark = m; books = tables_known u }) e
     ∙ ap (λ bs. record { depth = t.depth; mark = m; books = bs }) h

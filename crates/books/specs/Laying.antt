@@ -2,12 +2,13 @@
 use Rattle.std.specs.Prelude.{◌≡◌, ℕ, suc, ◌-◌, Bool, true, not, ◌&&◌, List, ◌∷◌, length, ◌==◌, Some, None, Option}
 use Rattle.std.specs.List.{slice_get}
 use Rattle.wire.specs.declared.point.Side.{Side}
-use Rattle.books.specs.declared.level.Level.{Level}
-use Rattle.books.specs.Levels.{before}
-use Rattle.books.specs.declared.level.Point.{Point}
+use Rattle.book_model.specs.declared.level.Level.{Level}
+use Rattle.book_model.specs.Levels.{before}
+use Rattle.book_model.specs.declared.level.Point.{Point}
 use Rattle.books.specs.declared.tables.Tables.{Tables}
-use Rattle.books.specs.Entering.{filled}
-use Rattle.books.specs.Keepers.{tables_known, changed_at}
+use Rattle.book_model.specs.Entering.{filled}
+use Rattle.book_model.specs.Keepers.{changed_at}
+use Rattle.books.specs.Keepers.{tables_known}
 
 -- whether a level comes after another, if there is one
 abbrev pub after : Side → Level → Option Level → Bool

@@ -1,6 +1,5 @@
 pub mod Sizes
-pub mod Levels
-pub mod Entering
+pub mod Tabled
 pub mod Keepers
 pub mod Laws
 pub mod Laying

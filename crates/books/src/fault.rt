@@ -2,6 +2,7 @@
 ghost use Rattle.std.specs.Prelude.{◌≡◌, Some};
 ghost use Rattle.books.specs.Keepers.{fault_number, table_fault_text};
 
+use common::Refusal;
 use std::error::Error;
 use std::fmt;
 
@@ -27,7 +28,7 @@ impl fmt::Display for TableFault {
     ghost output = { λ fault. Some (table_fault_text fault) };
 
     fn fmt<W: fmt::Write>(&self, f: &mut fmt::Formatter<W>) -> fmt::Result {
-        write!(f, "refused {}", self.number())
+        write!(f, "{}", Refusal(self.number()))
     }
 }
 

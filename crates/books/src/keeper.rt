@@ -1,13 +1,13 @@
 //! The keeper: a sink over checked tables.
 ghost use Rattle.std.specs.Prelude.{◌≡◌, false, length};
-ghost use Rattle.sink.specs.Views.{WholeMoves};
-ghost use Rattle.books.specs.Keepers.{Kept, keeper_means, keeper_step, tables_known, fresh, forgotten, at_book};
-ghost use Rattle.books.specs.Entering.{told, points_of};
-ghost use Rattle.books.specs.Laws.{Keeping};
+ghost use Rattle.sink.specs.Events.{restart_of};
+ghost use Rattle.sink.specs.Views.{Moves};
+ghost use Rattle.book_model.specs.Entering.{points_of};
+ghost use Rattle.book_model.specs.Keepers.{Kept, keeper_step, fresh, forgotten, heard};
+ghost use Rattle.books.specs.Keepers.{keeper_means, tables_known};
 
-use crate::book::Start;
-use crate::by_price::{Buys, Sells};
 use crate::tables::Tables;
+use book_model::Start;
 use sink::Sink;
 use wire::{DeltaPoint, Message, Point, Points, PricePoint};
 
@@ -22,15 +22,32 @@ pub struct BookKeeper<'a, 'b, 'c> {
 }
 
 impl<'a, 'b, 'c> BookKeeper<'a, 'b, 'c> {
-    /// A keeper over checked tables that knows of no book, whatever the tables held.
+    /// A keeper over checked tables that knows of no book, whatever the tables held: as after a restart at 1.
     pub fn new(tables: Tables<'a, 'b, 'c>) -> BookKeeper<'a, 'b, 'c>
-        ensures { keeper_means result ≡ fresh tables.entry.depth (length (tables_known tables.entry)) }
+        ensures fresh { keeper_means result ≡ fresh tables.entry.depth (length (tables_known tables.entry)) }
+        ensures restarted { (k : Kept) → k.depth ≡ tables.entry.depth → length k.books ≡ length (tables_known tables.entry) → keeper_means result ≡ keeper_step (restart_of 1) k }
     {
         BookKeeper {
             tables,
             mark: 0,
             stale: true,
         }
+    }
+
+    /// The tables, which hold each book as it is known then.
+    pub fn into_tables(self) -> Tables<'a, 'b, 'c>
+        ensures depth { result.depth ≡ (keeper_means self.entry).depth }
+        ensures books { tables_known result ≡ (keeper_means self.entry).books }
+    {
+        let BookKeeper {
+            mut tables,
+            stale,
+            ..
+        } = self;
+        if stale {
+            tables.forget();
+        }
+        tables
     }
 }
 
@@ -57,7 +74,7 @@ impl BookKeeper<'_, '_, '_> {
 
     // A message with points to the book with a number.
     fn hear<P: Point>(&mut self, number: u16, start: Start, scale: u8, points: Points<'_, P>)
-        ensures { keeper_means self.new ≡ at_book number (told (keeper_means self.old).depth start (points_of P.named scale points.entry)) (keeper_means self.old) }
+        ensures { keeper_means self.new ≡ heard number start (points_of P.named scale points.entry) (keeper_means self.old) }
     {
         self.clear_stale();
         self.tables.tell(number, start, scale, points);
@@ -123,17 +140,7 @@ impl<'a, 'b, 'c> Sink for BookKeeper<'a, 'b, 'c> {
     }
 }
 
-/// What always holds of a keeper, whatever it is told: a theorem.
-pub fn keeping()
-    ensures { Keeping }
-{
-    ladder::ordered::<Buys>();
-    ladder::ordered::<Sells>();
-}
-
-/// What a keeper stands for moves as the keeper's step says: a theorem.
+/// The step of a keeper, as a sink, is what `keeper_step` says: a theorem.
 pub fn keeper_moves()
-    ensures { WholeMoves keeper_step }
-{
-    sink::moves::<BookKeeper<'static, 'static, 'static>>();
-}
+    ensures { Moves ⟦<BookKeeper<'static, 'static, 'static> as Sink>⟧.step keeper_step (λ (k : Kept). k) }
+{}

@@ -1,13 +1,14 @@
 //! Points laid down in the rows of a side that has none, one behind the other, while they come in the order of their side.
 //! A full update's points mostly do, and then no place is looked for.
 ghost use Rattle.std.specs.Prelude.{◌≡◌, ◌≤◌, true, [], length, take};
-ghost use Rattle.books.specs.Levels.{before};
-ghost use Rattle.books.specs.Entering.{Known, levels, with_levels, filled, points_of};
+ghost use Rattle.rank.specs.Rows.{Sorted};
+ghost use Rattle.book_model.specs.Levels.{price_of, before};
+ghost use Rattle.book_model.specs.Entering.{Known, levels, with_levels, filled, points_of};
 ghost use Rattle.books.specs.Laying.{behind, pending};
 
-use crate::by_price::{Buys, Sells};
-use crate::level::{Level, Point};
-use ladder::Rank;
+use crate::level::named;
+use book_model::{Buys, Level, Sells};
+use rank::Rank;
 use wire::{Points, Side};
 
 // Whether a price comes before another on a side.
@@ -44,6 +45,7 @@ pub(crate) fn lay<P: wire::Point>(
     points: &mut Points<'_, P>,
 ) -> (usize, Option<P>)
     ensures within { result.0 ≤ length rows.new }
+    ensures ordered { Sorted price_of (before side) (take result.0 rows.new) }
     ensures told { (k : Known) → k.whole ≡ true → levels side k ≡ [] → filled (length rows.old) (points_of P.named scale (pending first points.old)) k ≡ filled (length rows.old) (points_of P.named scale (pending result.1 points.new)) (with_levels side (take result.0 rows.new) k) }
 {
     let mut used = 0;
@@ -52,7 +54,7 @@ pub(crate) fn lay<P: wire::Point>(
         let Some(point) = next else {
             return (used, None);
         };
-        let told = Point::named(point.level(), scale);
+        let told = named(point.level(), scale);
         if told.side != side || used == rows.len() || !follows(&rows[..used], side, told.level) {
             return (used, Some(point));
         }

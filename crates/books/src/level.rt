@@ -1,41 +1,26 @@
 //! The levels of one side of a book, as a ladder.
 ghost use Rattle.std.specs.Prelude.{◌≡◌, ◌<◌, length, take, MatchOption};
-ghost use Rattle.ladder.specs.Ladders.{Holds};
-ghost use Rattle.books.specs.Levels.{changed, named};
+ghost use Rattle.rank.specs.Rows.{Sorted};
+ghost use Rattle.ladder.specs.Tables.{Holds};
+ghost use Rattle.book_model.specs.Levels.{changed, named as named_at};
 
-use ladder::Rank;
-use wire::{PricePoint, Side};
+use book_model::{Level, Point};
+use rank::Rank;
+use wire::PricePoint;
 
-/// A level: a price in billionths, the volume at it and its count of orders.
-#[derive(Clone, Copy, PartialEq, Eq, Debug, Default)]
-pub struct Level {
-    pub price: u64,
-    pub volume: u32,
-    pub orders: u16,
-}
-
-/// A level that a message names, and its side.
-#[derive(Clone, Copy)]
-pub(crate) struct Point {
-    pub side: Side,
-    pub level: Level,
-}
-
-impl Point {
-    // The level of a packet's point, its price in billionths.
-    // Kept as a function of two values: a `From` takes one, and the scale is the message's.
-    pub(crate) fn named(point: PricePoint, scale: u8) -> Point
-        ensures { result ≡ named scale point }
-    {
-        let level = Level {
-            price: point.price(scale),
-            volume: point.volume,
-            orders: point.orders,
-        };
-        Point {
-            side: point.side,
-            level,
-        }
+// The level of a packet's point, its price in billionths.
+// Kept as a function of two values: a `From` takes one, and the scale is the message's.
+pub(crate) fn named(point: PricePoint, scale: u8) -> Point
+    ensures { result ≡ named_at scale point }
+{
+    let level = Level {
+        price: point.price(scale),
+        volume: point.volume,
+        orders: point.orders,
+    };
+    Point {
+        side: point.side,
+        level,
     }
 }
 
@@ -49,7 +34,8 @@ pub(crate) fn change<R: Rank<Row = Level, Key = u64>>(
     used: u16,
     level: Level,
 ) -> Option<u16>
-    requires { length rows.old < 65536 }
+    requires room { length rows.old < 65536 }
+    requires ordered { Sorted R.Rank.keyed R.Rank.before (take used rows.old) }
     ensures { MatchOption result (length rows.old < length (changed R.Rank.keyed R.Rank.before level (take used rows.old))) (λ n. Holds rows.new n (changed R.Rank.keyed R.Rank.before level (take used rows.old))) }
 {
     let used = usize::from(used);

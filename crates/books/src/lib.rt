@@ -2,7 +2,6 @@
 #![tactic(auto)]
 
 mod book;
-mod by_price;
 mod fault;
 mod keeper;
 mod laying;
@@ -11,9 +10,8 @@ mod reads;
 mod tables;
 mod telling;
 
-pub use book::Book;
-pub use by_price::{Buys, ByPrice, Sells};
+pub use book::{Book, BookRow};
+pub use book_model::Level;
 pub use fault::TableFault;
-pub use keeper::{BookKeeper, keeper_moves, keeping};
-pub use level::Level;
-pub use tables::Tables;
+pub use keeper::{BookKeeper, keeper_moves};
+pub use tables::{RefusedTables, Tables};

@@ -1,19 +1,21 @@
 //! What a message with points makes of its book.
 ghost use Rattle.std.specs.Prelude.{◌<◌, suc, List, length, replicate};
-ghost use Rattle.books.specs.Entering.{limited, filled, told, points_of, unknown};
-ghost use Rattle.books.specs.Keepers.{tables_known, changed_at, Becomes};
+ghost use Rattle.book_model.specs.Entering.{limited, filled, told, points_of, unknown};
+ghost use Rattle.book_model.specs.Keepers.{changed_at};
+ghost use Rattle.books.specs.Keepers.{tables_known, Becomes};
 ghost use Rattle.books.specs.Laying.{pending, Leaves};
 
-use crate::book::{Book, Start};
-use crate::by_price::{Buys, Sells};
+use crate::book::Book;
 use crate::laying::lay;
-use crate::level::{Point, change};
-use crate::tables::Tables;
+use crate::level::{change, named};
+use crate::tables::{Tables, clear};
+use book_model::{Buys, Point, Sells, Start};
 use wire::{Points, Side};
 
 impl Tables<'_, '_, '_> {
     // One level told to the book at a place.
     // Kept as two arms: the order of a side is a type, and the side is a value.
+    // Kept with the books borrowed first: the rows of a side and their count are in order together, and are written one after the other.
     // Kept inline, as `change` is.
     #[inline(always)]
     fn put(&mut self, i: usize, point: Point)
@@ -21,15 +23,16 @@ impl Tables<'_, '_, '_> {
         ensures { Becomes self.old self.new (changed_at (suc i) (limited self.old.depth point.side point.level) (tables_known self.old)) }
     {
         let rows = self.rows(i);
-        let Book { buys, sells, .. } = self.books[i];
+        let books = &mut *self.books;
+        let Book { buys, sells, .. } = books[i].book;
         match point.side {
             Side::Buy => match change::<Buys>(&mut self.buys[rows], buys, point.level) {
-                Some(used) => self.books[i].buys = used,
-                None => self.books[i] = Book::empty(false, self.books[i].touched),
+                Some(used) => books[i].book.buys = used,
+                None => books[i].book = books[i].book.overflown(),
             },
             Side::Sell => match change::<Sells>(&mut self.sells[rows], sells, point.level) {
-                Some(used) => self.books[i].sells = used,
-                None => self.books[i] = Book::empty(false, self.books[i].touched),
+                Some(used) => books[i].book.sells = used,
+                None => books[i].book = books[i].book.overflown(),
             },
         }
     }
@@ -40,10 +43,10 @@ impl Tables<'_, '_, '_> {
         ensures { Becomes self.old self.new (changed_at (suc i) (filled self.old.depth (points_of P.named scale points.entry)) (tables_known self.old)) }
     {
         for point in points {
-            if !self.books[i].whole {
+            if !self.books[i].book.whole {
                 return;
             }
-            self.put(i, Point::named(point.level(), scale));
+            self.put(i, named(point.level(), scale));
         }
     }
 
@@ -61,17 +64,18 @@ impl Tables<'_, '_, '_> {
         requires { i < length self.old.books.now }
         ensures { Leaves self.old self.new i (points_of P.named scale (pending first points.old)) (points_of P.named scale (pending result points.new)) }
     {
-        let book = self.books[i];
         let rows = self.rows(i);
+        let books = &mut *self.books;
+        let book = books[i].book;
         match side {
             Side::Buy if book.whole && book.buys == 0 => {
                 let (used, next) = lay(&mut self.buys[rows], side, scale, first, points);
-                self.books[i].buys = used as u16;
+                books[i].book.buys = used as u16;
                 next
             }
             Side::Sell if book.whole && book.sells == 0 => {
                 let (used, next) = lay(&mut self.sells[rows], side, scale, first, points);
-                self.books[i].sells = used as u16;
+                books[i].book.sells = used as u16;
                 next
             }
             _ => first,
@@ -86,8 +90,8 @@ impl Tables<'_, '_, '_> {
         let Some(point) = first else {
             return;
         };
-        if self.books[i].whole {
-            self.put(i, Point::named(point.level(), scale));
+        if self.books[i].book.whole {
+            self.put(i, named(point.level(), scale));
         }
     }
 
@@ -117,10 +121,10 @@ impl Tables<'_, '_, '_> {
         let Some(i) = self.spot(number) else {
             return;
         };
-        let Some(book) = self.books[i].begun(start) else {
+        let Some(book) = self.books[i].book.begun(start) else {
             return;
         };
-        self.books[i] = book;
+        self.books[i].book = book;
         match start {
             Start::Delta(_) => self.fill(i, scale, points),
             _ => self.lay_out(i, scale, points),
@@ -128,9 +132,10 @@ impl Tables<'_, '_, '_> {
     }
 
     // Nothing is known of any book.
+    #[tactic(auto, using(crate::proofs::Rows::blanked, crate::proofs::Told::blank_ordered))]
     pub(crate) fn forget(&mut self)
         ensures { Becomes self.old self.new (replicate (length (tables_known self.old)) unknown) }
     {
-        self.books.fill(Book::UNKNOWN);
+        clear(self.books);
     }
 }

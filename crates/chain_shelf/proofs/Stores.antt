@@ -3,7 +3,8 @@ use Rattle.std.proofs.Common.{◌≡◌, ℕ, ◌-◌, ◌/◌, ◌≤◌, true,
 use Rattle.std.proofs.lemmas.Bool.Decides.{nat_tests}
 use Rattle.std.proofs.lemmas.Bool.{le-leb}
 use Rattle.chain_shelf.specs.Records.{span}
-use Rattle.shelf.specs.Store.{Packets, remove, lookup, right, with_held, take_answer, take_buffer, take_after, length_of, written}
+use Rattle.shelf.specs.Store.{Packets, remove, lookup, with_held, take_answer, take_buffer, take_after, length_of, written}
+use Rattle.common.specs.Lengths.{right}
 use Rattle.chain_shelf.specs.Chain.{held, store}
 
 pub store_is : (b d : List ℕ) (h : Packets) → held d ≡ h → length d ≡ length b → store d ≡ with_held (store b) h

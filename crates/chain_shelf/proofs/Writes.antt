@@ -1,7 +1,8 @@
 -- What a put and a take leave in a region that is kept: b is lent from v, d is what was written there, and r the region after it.
 use Rattle.std.proofs.Common.{◌≡◌, ℕ, ◌+◌, ◌-◌, ◌^◌, ◌<◌, ◌≤◌, true, false, List, length, sym, ap, ◌∙◌, subst, subst₂, arith}
 use Rattle.chain_shelf.specs.Records.{mem, records, link, size, span, walk, last}
-use Rattle.shelf.specs.Store.{right, has, insert, remove}
+use Rattle.shelf.specs.Store.{has, insert, remove}
+use Rattle.common.specs.Lengths.{right}
 use Rattle.chain_shelf.specs.Chain.{Kept, Before, LaidIn, TakenOut, held, spent}
 use Rattle.chain_shelf.specs.Sounds.{opened}
 use Rattle.chain_shelf.proofs.Sounds.{closed}

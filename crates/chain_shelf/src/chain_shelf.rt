@@ -1,6 +1,7 @@
 //! The shelf.
 ghost use Rattle.std.specs.Prelude.{◌≡◌, ◌+◌, ◌-◌, ◌*◌, ◌/◌, ◌≤◌, true, false, length, vec_len, Some};
-ghost use Rattle.shelf.specs.Store.{has, insert, remove, lookup, above, length_of, written, right};
+ghost use Rattle.shelf.specs.Store.{has, insert, remove, lookup, above, length_of, written};
+ghost use Rattle.common.specs.Lengths.{right};
 ghost use Rattle.chain_shelf.specs.Records.{records, span};
 ghost use Rattle.chain_shelf.specs.Chain.{Kept, Before, held, spent, store, fresh};
 ghost use Rattle.chain_shelf.specs.Sounds.{store_lawful};

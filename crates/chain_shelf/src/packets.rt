@@ -1,7 +1,7 @@
 //! Packets in the chains: laid in, taken out.
 ghost use Rattle.std.specs.Prelude.{◌≡◌, ℕ, ◌+◌, ◌-◌, ◌/◌, ◌%◌, ◌<◌, ◌≤◌, ◌⊎◌, [], length, if◌then◌else◌};
 ghost use Rattle.chain_shelf.specs.Records.{mem, records, link, next, number as number_of, size as size_of, tail, in_use, span, walk, cnt, Apart, Inside};
-ghost use Rattle.shelf.specs.Store.{right};
+ghost use Rattle.common.specs.Lengths.{right};
 ghost use Rattle.chain_shelf.specs.Chain.{held, end, PriceLaw, PricesWorked, Whole, Kept, Before, LaidIn, TakenOut};
 
 use crate::records::{

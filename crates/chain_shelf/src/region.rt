@@ -1,6 +1,6 @@
 //! The memory of a shelf.
 ghost use Rattle.std.specs.Prelude.{◌≡◌, true, is_ok, vec_len, MatchResult, Some};
-ghost use Rattle.shelf.specs.Store.{refused_text};
+ghost use Rattle.common.specs.Texts.{refused_text};
 ghost use Rattle.chain_shelf.specs.Regions.{fit, SizesWorked};
 ghost use Rattle.chain_shelf.specs.Faults.{region_fault_number};
 ghost use Rattle.chain_shelf.specs.declared.region.RegionFault.TheVariants.{Size};

@@ -7,7 +7,7 @@ use Rattle.wire.specs.declared.point.PricePoint.{PricePoint}
 use Rattle.wire.specs.declared.point.DeltaPoint.{DeltaPoint}
 use Rattle.wire.specs.Texts.{side_text, reason_text, fault_text}
 use Rattle.wire.specs.Prices.{price}
-use Rattle.wire.specs.Points.{full_at, delta_at, points}
+use Rattle.wire.specs.Points.{points_in_full, points_in_delta}
 use Rattle.wire.specs.Reading.{Msg, Pkt, reset, unavailable, mapping, full, delta}
 
 -- the digits of a number at the given places
@@ -22,21 +22,26 @@ decimals = 100000000 ∷ 10000000 ∷ 1000000 ∷ 100000 ∷ 10000 ∷ 1000 ∷ 
 abbrev pub price_text : ℕ → List ℕ
 price_text n = decimal (n / 1000000000) ++ (codes "." ++ places_from n decimals)
 
--- two blanks, the side, the price, the volume and the count of orders
-abbrev pub level_text : ℕ → PricePoint → List ℕ
-level_text scale p =
-    codes "  " ++ (side_text p.side ++ (codes " " ++ (price_text (price p.numerator scale) ++
-    (codes " " ++ (decimal p.volume ++ (codes " " ++ decimal p.orders))))))
+-- a level: the side, the price in billionths, the volume and the count of orders
+abbrev pub level_words : Side → ℕ → ℕ → ℕ → List ℕ
+level_words side billionths volume orders =
+    side_text side ++ (codes " " ++ (price_text billionths ++ (codes " " ++ (decimal volume ++ (codes " " ++ decimal orders)))))
 
--- the same of a level whose price is in billionths
+-- the same behind two blanks
 abbrev pub priced_level_text : Side → ℕ → ℕ → ℕ → List ℕ
-priced_level_text side billionths volume orders =
-    codes "  " ++ (side_text side ++ (codes " " ++ (price_text billionths ++ (codes " " ++ (decimal volume ++ (codes " " ++ decimal orders))))))
+priced_level_text side billionths volume orders = codes "  " ++ level_words side billionths volume orders
 
--- the level, then reason, changed quantity and link
+-- the level that a point names, at the scale of its message
+abbrev pub level_text : ℕ → PricePoint → List ℕ
+level_text scale p = priced_level_text p.side (price p.numerator scale) p.volume p.orders
+
+-- what changed a level: the reason, the changed quantity and the link
+abbrev pub change_words : DeltaPoint → List ℕ
+change_words p = codes " " ++ (reason_text p.reason ++ (codes " " ++ (decimal p.changed ++ (codes " " ++ decimal p.link))))
+
+-- the level of a delta's point, and what changed it
 abbrev pub delta_text : ℕ → DeltaPoint → List ℕ
-delta_text scale p =
-    level_text scale p.level ++ (codes " " ++ (reason_text p.reason ++ (codes " " ++ (decimal p.changed ++ (codes " " ++ decimal p.link)))))
+delta_text scale p = level_text scale p.level ++ change_words p
 
 -- an update by its kind, number, flag, link flag, index, scale and count of points
 abbrev pub update_text : List ℕ → Pkt → ℕ → ℕ → ℕ → List ℕ
@@ -65,8 +70,8 @@ abbrev pub points_text : Msg → List ℕ
 points_text (reset next) = []
 points_text (unavailable b e) = []
 points_text mapping = []
-points_text (full index scale ps) = point_lines (level_text scale) (points 12 full_at ps)
-points_text (delta index scale ps) = point_lines (delta_text scale) (points 28 delta_at ps)
+points_text (full index scale ps) = point_lines (level_text scale) (points_in_full ps)
+points_text (delta index scale ps) = point_lines (delta_text scale) (points_in_delta ps)
 
 -- the answer to the reading of a packet, each line ended
 abbrev pub reading_text : Result Pkt ReadFault → List ℕ

@@ -1,12 +1,8 @@
 //! The handler's console: reads a script and prints the answer to each line.
 #![tactic(auto)]
 
-ghost use Rattle.channel.specs.Channels.{state};
-ghost use Rattle.operator.specs.Desks.{IsOwn};
-ghost use Rattle.session.specs.Commands.{board};
-
 use any_shelf::AnyShelf;
-use books::{Book, BookKeeper, Level, Tables};
+use books::{BookKeeper, BookRow, Level, Tables};
 use channel::Channel;
 use operator::Desk;
 use script::{Command, ParseError, Setup, Source, open_script, parse};
@@ -28,17 +24,12 @@ type Parsed = Result<Option<Command>, ParseError>;
 
 // What answers the lines of a script, but for a setup.
 trait Answers {
-    // What stays so from one answer to the next.
-    ghost keeps: { Self → Type 0 };
-
     fn answer(
         &mut self,
         alloc: Global,
         scratch: &mut [u8],
         asked: Parsed,
-    ) -> Result<String, AllocError>
-        requires { keeps self.old }
-        ensures { keeps self.new };
+    ) -> Result<String, AllocError>;
 }
 
 // No channel.
@@ -46,8 +37,6 @@ trait Answers {
 struct Alone;
 
 impl Answers for Alone {
-    ghost keeps = { λ _. Unit {0} };
-
     fn answer(
         &mut self,
         alloc: Global,
@@ -58,10 +47,8 @@ impl Answers for Alone {
     }
 }
 
-// A channel with the claim in hand, which is the one that is out.
+// A channel with the claim in hand.
 impl<'a, 'b, 'c, 'd, H: Shelf> Answers for Desk<Board<'a, 'b, 'c, 'd>, H> {
-    ghost keeps = { λ desk. IsOwn (state board (H.Shelf) desk.channel) desk.hand };
-
     fn answer(
         &mut self,
         alloc: Global,
@@ -81,10 +68,7 @@ struct Script<'a> {
 
 impl Script<'_> {
     // Answers lines until a setup, which is given, or the end.
-    fn serve<T: Answers>(&mut self, served: &mut T) -> anyhow::Result<Option<Setup>>
-        requires { T.keeps served.old }
-        ensures { T.keeps served.new }
-    {
+    fn serve<T: Answers>(&mut self, served: &mut T) -> anyhow::Result<Option<Setup>> {
         let rt = self.rt;
         let alloc = rt.alloc();
         let mut scratch = [0; LONGEST];
@@ -108,7 +92,7 @@ impl Script<'_> {
     fn serve_tables(&mut self, setup: Setup, shelf: AnyShelf) -> anyhow::Result<Option<Setup>> {
         let alloc = self.rt.alloc();
         let sizes = table_sizes(setup);
-        let mut books = vec![in alloc; Book::UNKNOWN; sizes.books]?;
+        let mut books = vec![in alloc; BookRow::UNKNOWN; sizes.books]?;
         let mut buys = vec![in alloc; Level::default(); sizes.levels]?;
         let mut sells = vec![in alloc; Level::default(); sizes.levels]?;
         let mut rows = vec![in alloc; Row::default(); sizes.rows]?;
@@ -123,14 +107,12 @@ impl Script<'_> {
                 let board = Twin::new(BookKeeper::new(tables), Tally::new(rows.as_mut_slice()));
                 let channel = Channel::new(board, Quota::new(shelf, setup.limit));
                 self.rt.print("ready\n")?;
-                let mut desk = Desk::new(channel, None);
+                let mut desk = Desk::new(channel);
                 let end = self.serve(&mut desk);
-                match desk.close() {
-                    Ok(()) => end,
-                    Err(_refused) => unreachable!(),
-                }
+                let _closed = desk.close();
+                end
             }
-            Err(fault) => self.refuse(fault),
+            Err(refused) => self.refuse(refused.fault),
         }
     }
 

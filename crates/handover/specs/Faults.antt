@@ -2,7 +2,8 @@
 use Rattle.std.specs.Prelude.{ℕ, List, ◌++◌, Some, None, codes, decimal, Option}
 use Rattle.wire.specs.Faults.{fault_number}
 use Rattle.wire.specs.Texts.{fault_text}
-use Rattle.shelf.specs.Store.{put_fault_number, refused_text}
+use Rattle.shelf.specs.Store.{put_fault_number}
+use Rattle.common.specs.Texts.{refused_text}
 use Rattle.handover.specs.declared.fault.ChannelFault.{ChannelFault}
 use Rattle.handover.specs.declared.fault.ChannelFault.TheVariants.{Short, Reset, Parts, Ahead, Behind, Far, Wide, Owed, Whole, Spent, Other, Zero, Source, Phase}
 use Rattle.handover.specs.declared.fault.OfferFault.{OfferFault}

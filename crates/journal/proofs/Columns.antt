@@ -11,7 +11,7 @@ use Rattle.wire.specs.declared.point.PricePoint.{PricePoint}
 use Rattle.wire.specs.declared.point.DeltaPoint.{DeltaPoint}
 use Rattle.wire.specs.Texts.{side_text, reason_text}
 use Rattle.wire.specs.Prices.{price}
-use Rattle.wire.specs.Points.{full_at, delta_at, points}
+use Rattle.wire.specs.Points.{points_in_full, points_in_delta}
 use Rattle.wire.specs.Reading.{Msg, reset, unavailable, mapping, full, delta}
 use Rattle.console.specs.Texts.{places_from, decimals, price_text}
 use Rattle.sink.specs.Events.{data_of, loss_of, refresh_of, restart_of}
@@ -148,8 +148,8 @@ message_columns : (n : ℕ) (event : List ℕ) (m : Msg) → plain event ≡ tru
 message_columns n event (reset x) e = bare_message n event (codes "reset") e refl
 message_columns n event (unavailable b x) e = bare_message n event (codes "unavailable") e refl
 message_columns n event mapping e = bare_message n event (codes "mapping") e refl
-message_columns n event (full i s ps) e = update_columns n event (codes "full") i _ e refl (joined_plain (level_text s) (level_plain s) (points 12 full_at ps))
-message_columns n event (delta i s ps) e = update_columns n event (codes "delta") i _ e refl (joined_plain (change_text s) (change_plain s) (points 28 delta_at ps))
+message_columns n event (full i s ps) e = update_columns n event (codes "full") i _ e refl (joined_plain (level_text s) (level_plain s) (points_in_full ps))
+message_columns n event (delta i s ps) e = update_columns n event (codes "delta") i _ e refl (joined_plain (change_text s) (change_plain s) (points_in_delta ps))
 
 pub run_columns : RunColumns
 run_columns (data_of n m) = message_columns n (codes "data") m refl

@@ -3,23 +3,19 @@ use Rattle.std.specs.Prelude.{ℕ, List, [], ◌∷◌, ◌++◌, codes, decimal
 use Rattle.std.specs.List.{flat_map}
 use Rattle.wire.specs.declared.point.PricePoint.{PricePoint}
 use Rattle.wire.specs.declared.point.DeltaPoint.{DeltaPoint}
-use Rattle.wire.specs.Texts.{side_text, reason_text}
 use Rattle.wire.specs.Prices.{price}
-use Rattle.wire.specs.Points.{full_at, delta_at, points}
+use Rattle.wire.specs.Points.{points_in_full, points_in_delta}
 use Rattle.wire.specs.Reading.{Msg, reset, unavailable, mapping, full, delta}
 use Rattle.sink.specs.Events.{Event, data_of, loss_of, refresh_of, restart_of}
-use Rattle.console.specs.Texts.{price_text}
+use Rattle.console.specs.Texts.{level_words, change_words}
 
 -- a level: the side, the price, the volume and the count of orders
 abbrev pub level_text : ℕ → PricePoint → List ℕ
-level_text scale p =
-    side_text p.side ++ (codes " " ++ (price_text (price p.numerator scale) ++
-    (codes " " ++ (decimal p.volume ++ (codes " " ++ decimal p.orders)))))
+level_text scale p = level_words p.side (price p.numerator scale) p.volume p.orders
 
 -- a change: the level, then reason, changed quantity and link
 abbrev pub change_text : ℕ → DeltaPoint → List ℕ
-change_text scale p =
-    level_text scale p.level ++ (codes " " ++ (reason_text p.reason ++ (codes " " ++ (decimal p.changed ++ (codes " " ++ decimal p.link)))))
+change_text scale p = level_text scale p.level ++ change_words p
 
 -- a semicolon before each of some points
 abbrev pub behind : {P : Type 0} → (P → List ℕ) → List P → List ℕ
@@ -39,8 +35,8 @@ abbrev pub message_text : Msg → List ℕ
 message_text (reset n) = codes "reset,,"
 message_text (unavailable b e) = codes "unavailable,,"
 message_text mapping = codes "mapping,,"
-message_text (full index scale ps) = update_text (codes "full") index (joined (level_text scale) (points 12 full_at ps))
-message_text (delta index scale ps) = update_text (codes "delta") index (joined (change_text scale) (points 28 delta_at ps))
+message_text (full index scale ps) = update_text (codes "full") index (joined (level_text scale) (points_in_full ps))
+message_text (delta index scale ps) = update_text (codes "delta") index (joined (change_text scale) (points_in_delta ps))
 
 -- the row of a message: its number, its event and what it says
 abbrev pub message_row : List ℕ → ℕ → Msg → List ℕ

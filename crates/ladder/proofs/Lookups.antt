@@ -1,5 +1,5 @@
 -- What a search finds in rows in order, and what is found of each key after a row is entered or removed.
-use Rattle.std.proofs.Common.{◌≡◌, ℕ, zero, suc, Bool, true, false, cond, not, List, [], ◌∷◌, drop, Some, None, sym, refl, ap, ◌∙◌, subst, arith}
+use Rattle.std.proofs.Common.{◌≡◌, ℕ, zero, suc, Bool, true, false, cond, not, List, [], ◌∷◌, drop, Some, None, Ok, Err, Result, MatchResult, sym, refl, ap, ◌∙◌, subst, arith}
 use Rattle.std.proofs.lemmas.Bool.{both_ways}
 use Rattle.std.specs.List.{slice_get}
 use Rattle.rank.specs.Keys.{ExactlyOne}
@@ -40,11 +40,15 @@ module _ {X K : Type 0} (key : X → K) (before : K → K → Bool) where
         let place : at ≡ placed key before k xs = f.is ∙ place_is key before trans k xs s in
         (place, ap (λ p. fronted key before k (drop p xs)) place ∙ plain k xs)
 
-    pub there_is : (k : K) (xs : List X) (at : ℕ) → Sorted key before xs → Found key before k xs true at → There key before k xs at
+    there_is : (k : K) (xs : List X) (at : ℕ) → Sorted key before xs → Found key before k xs true at → There key before k xs at
     there_is k xs at s f = let p = found_is k xs true at s f in record { within = omega (arith, f.within); place = p.0; row = row_at k xs at f.held ∙ p.1 }
 
-    pub missing_is : (k : K) (xs : List X) (at : ℕ) → Sorted key before xs → Found key before k xs false at → Missing key before k xs at
+    missing_is : (k : K) (xs : List X) (at : ℕ) → Sorted key before xs → Found key before k xs false at → Missing key before k xs at
     missing_is k xs at s f = let p = found_is k xs false at s f in record { place = p.0; none = sym p.1 ∙ no_row k (drop at xs) f.held }
+
+    pub look_is : (k : K) (xs : List X) (r : Result ℕ ℕ) → MatchResult r (λ at. Found key before k xs true at) (λ at. Found key before k xs false at) → Sorted key before xs → MatchResult r (There key before k xs) (Missing key before k xs)
+    look_is k xs (Ok at) f s = there_is k xs at s f
+    look_is k xs (Err at) f s = missing_is k xs at s f
 
     module _ (one : (a b : K) → ExactlyOne (before a b ≡ true) (a ≡ b) (before b a ≡ true)) where
       pub laws : Laws key before

@@ -1,10 +1,9 @@
--- Ladders in order: their search, their entering and their removing are the plain forms over rows in order.
+-- The search of a ladder and the plain forms of rows in order.
 use Rattle.std.specs.Prelude.{◌≡◌, Bool, List, Some, None, ◌≢◌}
 use Rattle.rank.specs.Rows.{Sorted, placed, inserted, without, kept}
 use Rattle.ladder.specs.Ladders.{place, entered, removed, looked}
 
--- What holds of a ladder in order. Its search by halves, its entering and its removing are the plain ones above; they keep the order;
--- and they change what is found of the key in hand alone.
+-- What holds of a ladder in order: the search, entering and removing are the plain forms; they keep the order; and they change what is found of the key in hand alone.
 pub record Laws {X K : Type 0} (key : X → K) (before : K → K → Bool) : Type 0 where
   pub place_is : (k : K) (xs : List X) → Sorted key before xs → place key before k xs ≡ placed key before k xs
   pub entered_is : (r : X) (xs : List X) → Sorted key before xs → entered key before r xs ≡ inserted key before r xs

@@ -79,17 +79,24 @@ fn counted<T>(rows: &[T], used: usize) -> usize
     used.min(rows.len())
 }
 
-/// Where the row with a key is among the first `used` rows, or else where one would be added.
-pub fn find<R: Rank>(rows: &[R::Row], used: usize, key: R::Key) -> Result<usize, usize>
-    ensures any { MatchResult result (λ at. Found R.keyed R.before key (take used rows.now) true at) (λ at. Found R.keyed R.before key (take used rows.now) false at) }
-    ensures ordered { Sorted R.keyed R.before (take used rows.now) → MatchResult result (There R.keyed R.before key (take used rows.now)) (Missing R.keyed R.before key (take used rows.now)) }
+// Where the row with a key is among the rows, or else where one would be added.
+#[inline(always)]
+fn look<R: Rank>(rows: &[R::Row], key: R::Key) -> Result<usize, usize>
+    ensures { MatchResult result (λ at. Found R.keyed R.before key rows.now true at) (λ at. Found R.keyed R.before key rows.now false at) }
 {
-    let rows = &rows[..counted(rows, used)];
     let at = place::<R>(rows, key);
     match rows.get(at) {
         Some(row) if !R::precedes(key, R::key(row)) => Ok(at),
         _ => Err(at),
     }
+}
+
+/// Where the row with a key is among the first `used` rows, or else where one would be added.
+pub fn find<R: Rank>(rows: &[R::Row], used: usize, key: R::Key) -> Result<usize, usize>
+    ensures any { MatchResult result (λ at. Found R.keyed R.before key (take used rows.now) true at) (λ at. Found R.keyed R.before key (take used rows.now) false at) }
+    ensures ordered { Sorted R.keyed R.before (take used rows.now) → MatchResult result (There R.keyed R.before key (take used rows.now)) (Missing R.keyed R.before key (take used rows.now)) }
+{
+    look::<R>(&rows[..counted(rows, used)], key)
 }
 
 // Puts a row in the place of another.

@@ -1,11 +1,11 @@
 -- What an operator's actions come to.
-use Rattle.std.specs.Prelude.{ℕ, List, [], ◌∷◌, ◌++◌, Some, None, vec_items, Option, Result}
+use Rattle.std.specs.Prelude.{◌≡◌, ℕ, true, List, [], ◌∷◌, ◌++◌, Some, None, vec_items, Option, Result}
 use Rattle.std.specs.Option.{option_map, option_and_then}
 use Rattle.std.specs.Result.{result_ok}
 use Rattle.sink.specs.Events.{Event}
 use Rattle.sink.specs.declared.Sink.{Ghosts as Sink}
 use Rattle.shelf.specs.declared.Shelf.{Ghosts as Shelf}
-use Rattle.order.specs.Machine.{Call, History}
+use Rattle.order.specs.Machine.{Call, settled, History}
 use Rattle.order.specs.Promise.{Making}
 use Rattle.handover.specs.declared.fault.ChannelFault.{ChannelFault}
 use Rattle.handover.specs.Words.{either, answer}
@@ -56,6 +56,10 @@ claim_reply d = answer (claim_answer d.channel d.buffer) asked_of
 -- the reply to a settlement: how many numbers of the claim in hand are missing, if one is in hand
 abbrev pub settle_reply : {M : Type 0} → Desk M → Option ℕ
 settle_reply d = option_and_then (λ k. result_ok (settle_answer d.channel k)) d.hand
+
+-- the call of a settlement, by the reply: none is made where no claim is in hand, and the claim in hand is taken
+abbrev pub settling : Option ℕ → List Call
+settling r = either r [] (λ n. settled true ∷ [])
 
 -- the oldest of some calls, the newest first, is a making that was taken
 abbrev pub Opens : List Call → Type 0
@@ -112,10 +116,11 @@ module _ {M : Type 0} (step : Event → M → M) where
   calls_of (a ∷ more) d = calls_of more (desk_after a d) ++ call_of a d
 
   -- THE CLAUSE of calls, the newest first, that lead from one state of a channel to another. Whatever history the channel followed, it follows that history with the
-  -- calls added, and keeps the promise of it. Calls that open the channel are a history of their own, from what the sink meant before.
+  -- calls added, and keeps the promise of it. Calls that open the channel are a history of their own, from what the sink meant before. Where none is made nothing changes.
   pub record GoesBy (calls : List Call) (c d : State M) : Type 0 where
     pub on : (before : M) (h : History) → Follows step before h c → Follows step before (calls ++ h) d × Promise step before (calls ++ h) d
     pub begins : Opens calls → Follows step c.sink calls d × Promise step c.sink calls d
+    pub none : calls ≡ [] → d ≡ c
 
 -- the first replies put in the first places of a table, as many as it has
 abbrev pub placed : List Reply → List Reply → List Reply

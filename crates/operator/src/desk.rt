@@ -26,7 +26,7 @@ impl<S: Sink, H: Shelf> Desk<S, H> {
     ghost use Rattle.channel.specs.Offers.{offer_answer};
     ghost use Rattle.channel.specs.Calls.{make_answer, restart_answer};
     ghost use Rattle.operator.specs.declared.action.Action.TheVariants.{Settle};
-    ghost use Rattle.operator.specs.Desks.{desk, asked_of, asked_after, desk_after, reply_to, claim_reply, settle_reply, call_of, calls_of, desks_after, replies_to, placed, GoesBy};
+    ghost use Rattle.operator.specs.Desks.{desk, asked_of, asked_after, desk_after, reply_to, claim_reply, settle_reply, settling, call_of, calls_of, desks_after, replies_to, placed, GoesBy};
 
     /// A desk with a channel and no claim in hand. A claim that is out of the channel stays with its holder: here it can't be settled, and no other is given.
     pub fn new(channel: Channel<S, H>) -> Desk<S, H>
@@ -85,12 +85,12 @@ impl<S: Sink, H: Shelf> Desk<S, H> {
     }
 
     /// Settles the claim in hand, if one is: how many numbers of its range are still missing.
-    #[tactic(auto, using(crate::proofs::Calls::goes_action))]
+    #[tactic(auto, using(crate::proofs::Calls::goes_nowhere))]
     pub fn settle(&mut self) -> Option<u32>
         ensures reply { (b : List ℕ) → result ≡ settle_reply (desk (S.Sink) (H.Shelf) self.old b) }
         ensures settled { is_some result ≡ is_some self.old.hand }
         ensures after { (b : List ℕ) → desk (S.Sink) (H.Shelf) self.new b ≡ desk_after S.Sink.step Settle (desk (S.Sink) (H.Shelf) self.old b) }
-        ensures stands { (b : List ℕ) → GoesBy S.Sink.step (call_of S.Sink.step Settle (desk (S.Sink) (H.Shelf) self.old b)) (state (S.Sink) (H.Shelf) self.old.channel) (state (S.Sink) (H.Shelf) self.new.channel) }
+        ensures stands { GoesBy S.Sink.step (settling result) (state (S.Sink) (H.Shelf) self.old.channel) (state (S.Sink) (H.Shelf) self.new.channel) }
     {
         let claim = self.hand.take()?;
         match self.channel.settle(claim) {
@@ -143,11 +143,11 @@ impl<S: Sink, H: Shelf> Desk<S, H> {
     }
 
     /// Settles the claim in hand, if one is, and gives the channel back.
-    #[tactic(auto, using(crate::proofs::Calls::goes_action))]
+    #[tactic(auto, using(crate::proofs::Calls::goes_nowhere))]
     pub fn close(self) -> Channel<S, H>
         ensures after { state (S.Sink) (H.Shelf) result ≡ (desk_after S.Sink.step Settle (desk (S.Sink) (H.Shelf) self [])).channel }
         ensures settled { is_some (settle_reply (desk (S.Sink) (H.Shelf) self [])) ≡ is_some self.hand }
-        ensures stands { GoesBy S.Sink.step (call_of S.Sink.step Settle (desk (S.Sink) (H.Shelf) self [])) (state (S.Sink) (H.Shelf) self.channel) (state (S.Sink) (H.Shelf) result) }
+        ensures stands { GoesBy S.Sink.step (settling (settle_reply (desk (S.Sink) (H.Shelf) self []))) (state (S.Sink) (H.Shelf) self.channel) (state (S.Sink) (H.Shelf) result) }
     {
         let Desk { mut channel, hand } = self;
         if let Some(claim) = hand {

@@ -10,7 +10,7 @@ use crate::progress::Progress;
 use crate::sinks::Day;
 use any_shelf::AnyShelf;
 use anyhow::anyhow;
-use books::{Book, BookKeeper, Level, Tables};
+use books::{BookKeeper, BookRow, Level, Tables};
 use capture::{FILE_HEADER, Format, RecordFault};
 use channel::{Channel, ChannelFault};
 use journal::{Journal, LossRows, RunRows, Tail};
@@ -160,7 +160,7 @@ fn replay_tables(
     let sizes = table_sizes(options.setup);
     let mut run = vec![in alloc; 0; rows_buffer(options.setup.shelf)]?;
     let mut losses = vec![in alloc; 0; 2 * LOSS_ROOM]?;
-    let mut books = vec![in alloc; Book::UNKNOWN; sizes.books]?;
+    let mut books = vec![in alloc; BookRow::UNKNOWN; sizes.books]?;
     let mut buys = vec![in alloc; Level::default(); sizes.levels]?;
     let mut sells = vec![in alloc; Level::default(); sizes.levels]?;
     let mut rows = vec![in alloc; Row::default(); sizes.rows]?;

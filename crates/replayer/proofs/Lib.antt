@@ -1,2 +1,1 @@
 mod Takes
-mod Leads

@@ -12,10 +12,10 @@ use Rattle.replayer.specs.declared.followed.Followed.{Followed}
 use Rattle.replayer.specs.Replays.{Replay, announced_in, is_same, refused, is_due, settled_if, wants, claimed_if, cleared, by_taken, emptied, by_reset}
 
 -- what came of an offer that was taken, by its settlement and its claim
-abbrev taking : Taken → Option (Result ℕ ChannelFault) → Option (Result Asked ChannelFault) → Followed
+abbrev taking : Taken → Option ℕ → Option (Result Asked ChannelFault) → Followed
 taking taken s k = record { offered = Ok taken; settled = s; claimed = k; restarted = None; repeated = false }
 
-pub taken_answer : {M : Type 0} (step : Event → M → M) (taken : Taken) (d e : Desk M) (s : Option (Result ℕ ChannelFault)) (k : Option (Result Asked ChannelFault))
+pub taken_answer : {M : Type 0} (step : Event → M → M) (taken : Taken) (d e : Desk M) (s : Option ℕ) (k : Option (Result Asked ChannelFault))
     → s ≡ settled_if (is_due taken.last d.hand) d → e ≡ cleared step taken d → k ≡ claimed_if (wants taken.last e) e
     → taking taken s k ≡ by_taken step taken d
 taken_answer step taken d e s k settled left claimed =
@@ -23,10 +23,10 @@ taken_answer step taken d e s k settled left claimed =
     ∙ ap (taking taken (settled_if (is_due taken.last d.hand) d)) (claimed ∙ ap (λ x. claimed_if (wants taken.last x) x) left)
 
 -- what came of a reset that is new, by its settlement and its restart
-abbrev beginning : OfferFault → ℕ → Option (Result ℕ ChannelFault) → Result (Unit {0}) ChannelFault → Followed
+abbrev beginning : OfferFault → ℕ → Option ℕ → Result (Unit {0}) ChannelFault → Followed
 beginning fault next s a = record (refused fault) { settled = s; restarted = Some (next, a) }
 
-pub reset_answer : {M : Type 0} (step : Event → M → M) (fault : OfferFault) (next : ℕ) (p : List ℕ) (r : Replay M) (s : Option (Result ℕ ChannelFault)) (a : Result (Unit {0}) ChannelFault)
+pub reset_answer : {M : Type 0} (step : Event → M → M) (fault : OfferFault) (next : ℕ) (p : List ℕ) (r : Replay M) (s : Option ℕ) (a : Result (Unit {0}) ChannelFault)
     → is_same (announced_in p) r.reset ≡ false → s ≡ settle_reply r.desk → a ≡ restart_answer (emptied step r.desk).channel next
     → beginning fault next s a ≡ by_reset step fault next p r
 reset_answer step fault next p r s a new settled restarted =

@@ -53,7 +53,7 @@ pub record Replay (M : Type 0) : Type 0 where
 
 module _ {M : Type 0} where
   -- the settlement of the claim in hand, where it is to be
-  abbrev pub settled_if : Bool → Desk M → Option (Result ℕ ChannelFault)
+  abbrev pub settled_if : Bool → Desk M → Option ℕ
   settled_if t d = if t then settle_reply d else None
 
   -- whether a claim is to be made: none is in hand, and a packet waits above last

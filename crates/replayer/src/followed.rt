@@ -9,7 +9,7 @@ use operator::Asked;
 pub struct Followed {
     pub offered: Result<Taken, OfferFault>,
     /// How many numbers of the claim that was settled are still missing.
-    pub settled: Option<Result<u32, ChannelFault>>,
+    pub settled: Option<u32>,
     /// What the claim that was made asks for; its request stands in front of the buffer.
     pub claimed: Option<Result<Asked, ChannelFault>>,
     /// The number at which the channel began again.

@@ -3,9 +3,9 @@ use Rattle.std.specs.Prelude.{ℕ, Bool, true, false, List, ◌++◌, Some, None
 use Rattle.std.specs.List.{flat_map}
 use Rattle.wire.specs.declared.point.Side.{Side}
 use Rattle.wire.specs.declared.point.Side.TheVariants.{Buy, Sell}
-use Rattle.books.specs.declared.level.Level.{Level}
+use Rattle.book_model.specs.declared.level.Level.{Level}
 use Rattle.books.specs.declared.book.Book.{Book}
-use Rattle.books.specs.Entering.{Known}
+use Rattle.book_model.specs.Entering.{Known}
 use Rattle.books.specs.Keepers.{shown, levels_shown}
 use Rattle.console.specs.Texts.{priced_level_text}
 

@@ -51,12 +51,11 @@ impl<'a> fmt::Display for ReplyLine<'a> {
                     "claimed channel={channel} serial={serial} from={from} to={to} request={request}"
                 )
             }
-            Reply::Settled(Ok(missing)) => writeln!(f, "settled missing={missing}"),
+            Reply::Settled(missing) => writeln!(f, "settled missing={missing}"),
             Reply::Restarted(Ok(())) => writeln!(f, "restarted last={last}"),
             Reply::Offered(Err(fault)) => writeln!(f, "{fault}"),
             Reply::Made(Err(fault))
             | Reply::Claimed(Err(fault))
-            | Reply::Settled(Err(fault))
             | Reply::Restarted(Err(fault)) => writeln!(f, "{fault}"),
             Reply::NoClaim => writeln!(f, "no claim"),
         }

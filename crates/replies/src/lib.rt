@@ -7,4 +7,4 @@ mod reads;
 
 pub use calls::{ReplyLine, StateLine};
 pub use hex::Hex;
-pub use reads::{RowLine, book_text};
+pub use reads::{RowLine, book_text, whole_text};

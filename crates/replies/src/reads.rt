@@ -1,6 +1,7 @@
 //! The text of books and of rows.
 ghost use Rattle.std.specs.Prelude.{◌≡◌, Some, IfOk, string_bytes};
-ghost use Rattle.books.specs.Keepers.{keeper_means, book_of};
+ghost use Rattle.book_model.specs.Keepers.{book_of};
+ghost use Rattle.books.specs.Keepers.{keeper_means};
 ghost use Rattle.replies.specs.Reads.{whole_text, heading, levels_text, book_text, row_text};
 
 use books::{Book, BookKeeper, Level};
@@ -9,7 +10,8 @@ use std::alloc::{AllocError, Global};
 use std::fmt;
 use wire::Side;
 
-fn whole_text(whole: bool) -> &'static str
+/// Whether a book is whole, in a word: `whole` or `partial`.
+pub fn whole_text(whole: bool) -> &'static str
     ensures { result.now ≡ whole_text whole }
 {
     if whole { "whole" } else { "partial" }

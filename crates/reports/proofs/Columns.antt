@@ -6,12 +6,13 @@ use Rattle.std.specs.Fmt.{digits, digits_onto, digit_glyph}
 use Rattle.wire.specs.declared.point.Side.{Side}
 use Rattle.wire.specs.declared.point.Side.TheVariants.{Buy, Sell}
 use Rattle.wire.specs.Texts.{side_text}
-use Rattle.books.specs.declared.level.Level.{Level}
+use Rattle.book_model.specs.declared.level.Level.{Level}
 use Rattle.operator.specs.declared.action.Asked.{Asked}
 use Rattle.console.specs.Texts.{places_from}
 use Rattle.replies.specs.Hex.{hex_digit, hex_text}
+use Rattle.replies.specs.Reads.{whole_text}
 use Rattle.reports.specs.GapLog.{requested_text, settled_text}
-use Rattle.reports.specs.DayBook.{state_text, level_row, empty_row}
+use Rattle.reports.specs.DayBook.{level_row, empty_row}
 use Rattle.reports.specs.Executed.{executed_row}
 use Rattle.reports.specs.Headers.{gap_header, day_book_header, tally_header, times, IsRow, Rows}
 
@@ -55,11 +56,11 @@ module _ (b : ℕ) (low : b < 46) where
       other (hex_digit (x / 16)) (hex_digit (x % 16) ∷ hex_text xs) (digit (x / 16)) ∙ (other (hex_digit (x % 16)) (hex_text xs) (digit (x % 16)) ∙ in_hex xs)
 
 -- words of a state and of a side have none
-state_comma : (w : Bool) → times 44 (state_text w) ≡ 0
+state_comma : (w : Bool) → times 44 (whole_text w) ≡ 0
 state_comma true = refl
 state_comma false = refl
 
-state_newline : (w : Bool) → times 10 (state_text w) ≡ 0
+state_newline : (w : Bool) → times 10 (whole_text w) ≡ 0
 state_newline true = refl
 state_newline false = refl
 

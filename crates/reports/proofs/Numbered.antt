@@ -2,7 +2,7 @@
 use Rattle.std.proofs.Common.{◌≡◌, ℕ, ◌+◌, ◌<◌, Bool, List, ◌∷◌, ◌++◌, length, drop, get_or, ap, ◌∙◌, add-one, append_assoc, sym}
 use Rattle.std.proofs.Math.Seq.{drop-cons}
 use Rattle.wire.specs.declared.point.Side.{Side}
-use Rattle.books.specs.declared.level.Level.{Level}
+use Rattle.book_model.specs.declared.level.Level.{Level}
 use Rattle.reports.specs.DayBook.{level_row, side_rows}
 use Rattle.reports.specs.Preview.{refusal_line, refusal_lines}
 

@@ -3,20 +3,17 @@ use Rattle.std.specs.Prelude.{ℕ, ◌+◌, Bool, true, false, not, List, [], �
 use Rattle.wire.specs.declared.point.Side.{Side}
 use Rattle.wire.specs.declared.point.Side.TheVariants.{Buy, Sell}
 use Rattle.wire.specs.Texts.{side_text}
-use Rattle.books.specs.declared.level.Level.{Level}
-use Rattle.books.specs.Entering.{Known}
-use Rattle.books.specs.Keepers.{book_of}
+use Rattle.book_model.specs.declared.level.Level.{Level}
+use Rattle.book_model.specs.Entering.{Known}
+use Rattle.book_model.specs.Keepers.{book_of}
 use Rattle.console.specs.Texts.{price_text}
+use Rattle.replies.specs.Reads.{whole_text}
 use Rattle.reports.specs.Each.{each_to, count_to}
-
-abbrev pub state_text : Bool → List ℕ
-state_text true = codes "whole"
-state_text false = codes "partial"
 
 -- a level: index, state, side, place, price, volume and count of orders
 abbrev pub level_row : ℕ → Bool → Side → ℕ → Level → List ℕ
 level_row i whole side place l =
-    decimal i ++ (codes "," ++ (state_text whole ++ (codes "," ++ (side_text side ++ (codes "," ++ (decimal place ++
+    decimal i ++ (codes "," ++ (whole_text whole ++ (codes "," ++ (side_text side ++ (codes "," ++ (decimal place ++
     (codes "," ++ (price_text l.price ++ (codes "," ++ (decimal l.volume ++ (codes "," ++ (decimal l.orders ++ codes "\n"))))))))))))
 
 -- the levels of a side in their order, the first at a place
@@ -26,7 +23,7 @@ side_rows i whole side place (l ∷ ls) = level_row i whole side place l ++ side
 
 -- a book with no level
 abbrev pub empty_row : ℕ → Bool → List ℕ
-empty_row i whole = decimal i ++ (codes "," ++ (state_text whole ++ codes ",,,,,\n"))
+empty_row i whole = decimal i ++ (codes "," ++ (whole_text whole ++ codes ",,,,,\n"))
 
 -- a book by its levels, buys first and the best first; their places count from 1
 abbrev pub levels_rows : ℕ → Bool → List Level → List Level → List ℕ

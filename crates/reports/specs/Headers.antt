@@ -1,7 +1,7 @@
 -- The first line of each file, and what its rows have of it.
 use Rattle.std.specs.Prelude.{◌≡◌, ℕ, suc, Bool, cond, List, [], ◌∷◌, Some, codes, ◌==◌}
 use Rattle.wire.specs.declared.point.Side.{Side}
-use Rattle.books.specs.declared.level.Level.{Level}
+use Rattle.book_model.specs.declared.level.Level.{Level}
 use Rattle.operator.specs.declared.action.Asked.{Asked}
 use Rattle.reports.specs.GapLog.{requested_text, settled_text}
 use Rattle.reports.specs.DayBook.{level_row, empty_row}

@@ -1,9 +1,9 @@
 -- The parts of the page about a day.
 use Rattle.std.specs.Prelude.{ℕ, ◌+◌, true, false, cond, List, [], ◌∷◌, ◌++◌, Some, None, codes, decimal, Option, nat_lt}
 use Rattle.std.specs.List.{slice_get}
-use Rattle.books.specs.declared.level.Level.{Level}
-use Rattle.books.specs.Entering.{Known}
-use Rattle.books.specs.Keepers.{book_of}
+use Rattle.book_model.specs.declared.level.Level.{Level}
+use Rattle.book_model.specs.Entering.{Known}
+use Rattle.book_model.specs.Keepers.{book_of}
 use Rattle.tally.specs.declared.row.Row.{Row}
 use Rattle.tally.specs.Tallies.{executed_of}
 use Rattle.console.specs.Texts.{price_text}

@@ -1,18 +1,14 @@
 //! The books as a day leaves them.
 ghost use Rattle.std.specs.Prelude.{◌≡◌, true, Some};
-ghost use Rattle.books.specs.Keepers.{keeper_means, book_of};
-ghost use Rattle.reports.specs.DayBook.{state_text, level_row, side_rows, book_rows, day_book_text, has_state, count_state};
+ghost use Rattle.book_model.specs.Keepers.{book_of};
+ghost use Rattle.books.specs.Keepers.{keeper_means};
+ghost use Rattle.reports.specs.DayBook.{level_row, side_rows, book_rows, day_book_text, has_state, count_state};
 
 use books::{BookKeeper, Level};
 use console::Dollars;
+use replies::whole_text;
 use std::fmt;
 use wire::Side;
-
-fn state_text(whole: bool) -> &'static str
-    ensures { result.now ≡ state_text whole }
-{
-    if whole { "whole" } else { "partial" }
-}
 
 // A level of a book, printed as a line.
 #[derive(Clone, Copy)]
@@ -29,7 +25,7 @@ impl fmt::Display for LevelRow {
 
     fn fmt<W: fmt::Write>(&self, f: &mut fmt::Formatter<W>) -> fmt::Result {
         let index = self.index;
-        let state = state_text(self.whole);
+        let state = whole_text(self.whole);
         let side = self.side;
         let place = self.place;
         let price = Dollars(self.level.price);
@@ -92,7 +88,7 @@ impl<'k, 'a, 'b, 'c> fmt::Display for BookRows<'k, 'a, 'b, 'c> {
         };
         let whole = book.whole;
         if book.buys == 0 && book.sells == 0 {
-            let state = state_text(whole);
+            let state = whole_text(whole);
             return writeln!(f, "{index},{state},,,,,");
         }
         let buys = SideRows {

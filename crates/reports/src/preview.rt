@@ -1,6 +1,7 @@
 //! A page about a day that a person reads, in parts that each print themselves.
 ghost use Rattle.std.specs.Prelude.{Some};
-ghost use Rattle.books.specs.Keepers.{keeper_means, book_of};
+ghost use Rattle.book_model.specs.Keepers.{book_of};
+ghost use Rattle.books.specs.Keepers.{keeper_means};
 ghost use Rattle.tally.specs.Tallies.{meant, executed_of};
 ghost use Rattle.reports.specs.Preview.{kinds_text, skips_text, packets_text, refusal_line, refusal_lines, refusals_text, last_line, gaps_text, top_text, book_line, book_lines, books_text, index_line, index_lines, executed_text};
 

@@ -7,7 +7,8 @@ use Rattle.sink.specs.declared.Twin.{Twin}
 use Rattle.sink.specs.Events.{Event}
 use Rattle.sink.specs.Views.{both}
 use Rattle.books.specs.declared.keeper.BookKeeper.{BookKeeper}
-use Rattle.books.specs.Keepers.{Kept, keeper_means, keeper_step, book_of}
+use Rattle.book_model.specs.Keepers.{Kept, keeper_step, book_of}
+use Rattle.books.specs.Keepers.{keeper_means}
 use Rattle.tally.specs.declared.tally.Counters.{Counters}
 use Rattle.tally.specs.declared.tally.Tally.{Tally}
 use Rattle.tally.specs.Tallies.{Counts, meant, executed_of, step as tally_step}

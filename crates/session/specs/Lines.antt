@@ -1,21 +1,22 @@
 -- What is answered to what `parse` makes of a line, and where it leaves a session.
 use Rattle.std.specs.Prelude.{ℕ, List, [], ◌++◌, Some, None, Ok, Err, codes, Option, Result}
-use Rattle.operator.specs.declared.action.Action.{Action}
-use Rattle.operator.specs.Desks.{Desk}
+use Rattle.order.specs.Machine.{Call}
+use Rattle.handover.specs.Words.{either}
+use Rattle.operator.specs.Desks.{Desk, call_of}
 use Rattle.script.specs.declared.command.Command.{Command}
 use Rattle.script.specs.declared.error.ParseError.{ParseError}
 use Rattle.script.specs.Faults.{parse_fault_text}
-use Rattle.session.specs.Commands.{Board, command_action, command_left, command_answer, command_alone}
+use Rattle.session.specs.Commands.{Board, told, command_action, command_left, command_answer, command_alone}
 
 -- what `parse` makes of a line: a command, nothing, or why it is none
 abbrev pub Parsed : Type 0
 Parsed = Result (Option Command) ParseError
 
--- the action that a line asks for, if it asks for one
-abbrev pub action_of : Parsed → Option Action
-action_of (Ok None) = None
-action_of (Ok (Some command)) = command_action command
-action_of (Err fault) = None
+-- the call that a line makes, if it makes one, and whether it was taken
+abbrev pub calls_by : Parsed → Desk Board → List Call
+calls_by (Ok None) d = []
+calls_by (Ok (Some command)) d = either (command_action command) [] (λ a. call_of told a d)
+calls_by (Err fault) d = []
 
 -- where a line leaves a session
 abbrev pub left_by : Parsed → Desk Board → Desk Board

@@ -1,31 +1,16 @@
 //! An action of the operator, and the text of its reply.
-ghost use Rattle.std.specs.Prelude.{◌≡◌, [], ◌∷◌, IfOk, string_bytes};
-ghost use Rattle.operator.specs.Desks.{desk as seen, desk_after, reply_to, RunsOn, IsOwn};
-ghost use Rattle.channel.specs.Channels.{state};
+ghost use Rattle.std.specs.Prelude.{◌≡◌, IfOk, string_bytes};
+ghost use Rattle.operator.specs.Desks.{desk as seen, desk_after};
 ghost use Rattle.session.specs.Commands.{acted_text};
 
-use operator::{Action, Desk, Reply};
+use operator::{Action, Desk};
 use replies::ReplyLine;
 use shelf::Shelf;
 use sink::Sink;
 use std::alloc::{AllocError, Global};
 
 // Kept with a desk and a buffer, both lent: a struct of the two, made for one call, leaves the checker without the tie between its fields and what was lent.
-
-// Runs one action.
-fn run_one<S: Sink, H: Shelf>(desk: &mut Desk<S, H>, buffer: &mut [u8], action: Action) -> Reply
-    ensures reply { result ≡ reply_to S.Sink.step action (seen (S.Sink) (H.Shelf) desk.old buffer.old) }
-    ensures after { seen (S.Sink) (H.Shelf) desk.new buffer.new ≡ desk_after S.Sink.step action (seen (S.Sink) (H.Shelf) desk.old buffer.old) }
-    ensures stands { RunsOn S.Sink.step (action ∷ []) (seen (S.Sink) (H.Shelf) desk.old buffer.old) (seen (S.Sink) (H.Shelf) desk.new buffer.new) }
-    ensures own { IsOwn (state (S.Sink) (H.Shelf) desk.old.channel) desk.old.hand → IsOwn (state (S.Sink) (H.Shelf) desk.new.channel) desk.new.hand }
-{
-    let actions = [action];
-    let mut replies = [Reply::NoClaim];
-    desk.run(&actions, buffer, &mut replies);
-    replies[0]
-}
-
-// Runs one action, answered by text.
+// Does one action, answered by text.
 pub(crate) fn act_text<S: Sink, H: Shelf>(
     alloc: Global,
     desk: &mut Desk<S, H>,
@@ -34,10 +19,8 @@ pub(crate) fn act_text<S: Sink, H: Shelf>(
 ) -> Result<String, AllocError>
     ensures text { IfOk result (λ t. string_bytes t ≡ acted_text S.Sink.step action (seen (S.Sink) (H.Shelf) desk.old buffer.old)) }
     ensures after { seen (S.Sink) (H.Shelf) desk.new buffer.new ≡ desk_after S.Sink.step action (seen (S.Sink) (H.Shelf) desk.old buffer.old) }
-    ensures stands { RunsOn S.Sink.step (action ∷ []) (seen (S.Sink) (H.Shelf) desk.old buffer.old) (seen (S.Sink) (H.Shelf) desk.new buffer.new) }
-    ensures own { IsOwn (state (S.Sink) (H.Shelf) desk.old.channel) desk.old.hand → IsOwn (state (S.Sink) (H.Shelf) desk.new.channel) desk.new.hand }
 {
-    let reply = run_one(desk, buffer, action);
+    let reply = desk.act(&action, buffer);
     let last = desk.channel().last();
     let line = ReplyLine {
         reply,

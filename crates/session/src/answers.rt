@@ -1,9 +1,9 @@
 //! What a command asks of a session, answered.
-ghost use Rattle.std.specs.Prelude.{◌≡◌, [], ◌∷◌, IfSome, IfOk, string_bytes};
-ghost use Rattle.operator.specs.Desks.{desk as seen, RunsOn, IsOwn};
+ghost use Rattle.std.specs.Prelude.{◌≡◌, IfOk, string_bytes};
+ghost use Rattle.operator.specs.Desks.{desk as seen, GoesBy};
 ghost use Rattle.channel.specs.Channels.{state};
-ghost use Rattle.session.specs.Commands.{board, told, command_action, command_left, command_answer, command_alone};
-ghost use Rattle.session.specs.Lines.{action_of, left_by, refusal_text, answer_to, answer_alone};
+ghost use Rattle.session.specs.Commands.{board, told, command_left, command_answer, command_alone};
+ghost use Rattle.session.specs.Lines.{calls_by, left_by, refusal_text, answer_to, answer_alone};
 
 use crate::acts::act_text;
 use crate::reads::{Board, book, row, show_state};
@@ -40,9 +40,7 @@ fn reply<H: Shelf>(
     command: Command,
 ) -> Result<String, AllocError>
     ensures text { IfOk result (λ t. string_bytes t ≡ command_answer command (seen board (H.Shelf) desk.old buffer.old)) }
-    ensures stands { IfSome (command_action command) (λ a. RunsOn told (a ∷ []) (seen board (H.Shelf) desk.old buffer.old) (seen board (H.Shelf) desk.new buffer.new)) }
     ensures after { seen board (H.Shelf) desk.new buffer.new ≡ command_left command (seen board (H.Shelf) desk.old buffer.old) }
-    ensures own { IsOwn (state board (H.Shelf) desk.old.channel) desk.old.hand → IsOwn (state board (H.Shelf) desk.new.channel) desk.new.hand }
 {
     match command {
         Command::Setup(_) => Ok(String::new(alloc)),
@@ -94,8 +92,9 @@ pub fn answer_alone(
 }
 
 /// The answer to what `parse` makes of a line, each line of it ended. What a command asks of the channel goes through the operator, so that whatever history the
-/// channel followed it then follows that history with the call of the command, and keeps the promise of it. A claim in hand that could be settled before can be
-/// settled after. A line that asks nothing has an empty answer, and so has a setup, which is the caller's.
+/// channel followed it then follows that history with the call of the command, and keeps the promise of it. A line that asks nothing has an empty answer, and so has
+/// a setup, which is the caller's.
+#[tactic(auto, using(crate::proofs::Lines::goes_line))]
 pub fn answer<H: Shelf>(
     alloc: Global,
     desk: &mut Desk<Board<'_, '_, '_, '_>, H>,
@@ -103,9 +102,8 @@ pub fn answer<H: Shelf>(
     asked: Result<Option<Command>, ParseError>,
 ) -> Result<String, AllocError>
     ensures text { IfOk result (λ t. string_bytes t ≡ answer_to asked (seen board (H.Shelf) desk.old buffer.old)) }
-    ensures stands { IfSome (action_of asked) (λ a. RunsOn told (a ∷ []) (seen board (H.Shelf) desk.old buffer.old) (seen board (H.Shelf) desk.new buffer.new)) }
+    ensures stands { GoesBy told (calls_by asked (seen board (H.Shelf) desk.old buffer.old)) (state board (H.Shelf) desk.old.channel) (state board (H.Shelf) desk.new.channel) }
     ensures after { seen board (H.Shelf) desk.new buffer.new ≡ left_by asked (seen board (H.Shelf) desk.old buffer.old) }
-    ensures own { IsOwn (state board (H.Shelf) desk.old.channel) desk.old.hand → IsOwn (state board (H.Shelf) desk.new.channel) desk.new.hand }
 {
     match asked {
         Ok(None) => Ok(String::new(alloc)),

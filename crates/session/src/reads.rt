@@ -2,7 +2,8 @@
 ghost use Rattle.std.specs.Prelude.{◌≡◌, IfOk, string_bytes};
 ghost use Rattle.std.specs.Option.{option_map};
 ghost use Rattle.shelf.specs.Store.{used};
-ghost use Rattle.books.specs.Keepers.{keeper_means, book_of};
+ghost use Rattle.book_model.specs.Keepers.{book_of};
+ghost use Rattle.books.specs.Keepers.{keeper_means};
 ghost use Rattle.tally.specs.Tallies.{meant, executed_of};
 ghost use Rattle.replies.specs.Calls.{state_text};
 ghost use Rattle.replies.specs.Reads.{book_text, row_text};

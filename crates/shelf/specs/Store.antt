@@ -1,6 +1,8 @@
 -- What a shelf means: the packets held by number, a total of units, and a price in units for each length.
-use Rattle.std.specs.Prelude.{ℕ, suc, ◌+◌, ◌^◌, ◌<◌, ◌≤◌, min, max, Bool, true, false, cond, ◌&&◌, List, [], ◌∷◌, ◌++◌, length, drop, Some, None, Ok, Err, Option, Result, ◌==◌, nat_le, nat_lt, codes, decimal}
+use Rattle.std.specs.Prelude.{ℕ, suc, ◌+◌, ◌^◌, ◌<◌, ◌≤◌, min, max, Bool, true, false, cond, List, [], ◌∷◌, ◌++◌, length, drop, Some, None, Ok, Err, Option, Result, ◌==◌, nat_le, nat_lt}
 use Rattle.std.specs.Option.{option_map}
+use Rattle.common.specs.declared.TheConstants.{SHORTEST, LONGEST}
+use Rattle.common.specs.Lengths.{right}
 use Rattle.shelf.specs.declared.PutFault.{PutFault}
 use Rattle.shelf.specs.declared.PutFault.TheVariants.{Length, Held, Full}
 use Rattle.shelf.specs.declared.TakeFault.{TakeFault}
@@ -15,10 +17,6 @@ put_fault_number Full = 13
 -- the number of each refusal of take
 abbrev pub take_fault_number : TakeFault → ℕ
 take_fault_number Short = 1
-
--- a refusal as it is printed, by its number; said again in `wire`, since a shelf stands on no crate
-abbrev pub refused_text : ℕ → List ℕ
-refused_text n = codes "refused " ++ decimal n
 
 -- the packets that are held, each beside its number, numbers rising strictly
 abbrev pub Packets : Type 0
@@ -53,10 +51,6 @@ above (x ∷ h) k = cond (nat_lt k x.0) (Some x.0) (above h k)
 abbrev pub units : (ℕ → ℕ) → Packets → ℕ
 units f [] = 0
 units f (x ∷ h) = f (length x.1) + units f h
-
--- a length that a packet may have
-abbrev pub right : ℕ → Bool
-right n = nat_le 16 n && nat_le n 1500
 
 -- what a shelf means
 pub record Store : Type 0 where
@@ -99,13 +93,13 @@ written None b = b
 written (Some p) b = p ++ drop (length p) b
 
 abbrev pub take_answer : Store → ℕ → List ℕ → Result (Option ℕ) TakeFault
-take_answer s k b = cond (nat_le 1500 (length b)) (Ok (length_of (lookup s.held k))) (Err Short)
+take_answer s k b = cond (nat_le LONGEST (length b)) (Ok (length_of (lookup s.held k))) (Err Short)
 
 abbrev pub take_buffer : Store → ℕ → List ℕ → List ℕ
-take_buffer s k b = cond (nat_le 1500 (length b)) (written (lookup s.held k) b) b
+take_buffer s k b = cond (nat_le LONGEST (length b)) (written (lookup s.held k) b) b
 
 abbrev pub take_after : Store → ℕ → List ℕ → Store
-take_after s k b = cond (nat_le 1500 (length b)) (with_held s (remove k s.held)) s
+take_after s k b = cond (nat_le LONGEST (length b)) (with_held s (remove k s.held)) s
 
 -- numbers rise strictly, from k on, and fit 32 bits
 abbrev pub Up : ℕ → Packets → Type 0
@@ -115,18 +109,18 @@ Up k (x ∷ h) = (k ≤ x.0) × (x.0 < 2 ^ 32) × Up (suc x.0) h
 -- each packet has a length that a packet may have
 abbrev pub Sized : Packets → Type 0
 Sized [] = Unit {0}
-Sized (x ∷ h) = (16 ≤ length x.1) × (length x.1 ≤ 1500) × Sized h
+Sized (x ∷ h) = (SHORTEST ≤ length x.1) × (length x.1 ≤ LONGEST) × Sized h
 
 -- the law of every shelf
 pub record Lawful (s : Store) : Type 0 where
-  pub least : (n : ℕ) → 16 ≤ n → n ≤ 1500 → 1 ≤ s.price n
-  pub most : (n : ℕ) → 16 ≤ n → n ≤ 1500 → s.price n ≤ s.total
-  pub grows : (m n : ℕ) → 16 ≤ m → m ≤ n → n ≤ 1500 → s.price m ≤ s.price n
+  pub least : (n : ℕ) → SHORTEST ≤ n → n ≤ LONGEST → 1 ≤ s.price n
+  pub most : (n : ℕ) → SHORTEST ≤ n → n ≤ LONGEST → s.price n ≤ s.total
+  pub grows : (m n : ℕ) → SHORTEST ≤ m → m ≤ n → n ≤ LONGEST → s.price m ≤ s.price n
   pub fits : s.total < 2 ^ 32
   pub spent : used s < 2 ^ 32
   pub up : Up 0 s.held
   pub sized : Sized s.held
 
--- a shelf of which at most limit units may be spent; a limit below the price of 1,500 bytes counts as that price
+-- a shelf of which at most limit units may be spent; a limit below the price of the longest packet counts as that price
 abbrev pub capped : ℕ → Store → Store
-capped limit s = record { held = s.held; total = min (max limit (s.price 1500)) s.total; price = s.price }
+capped limit s = record { held = s.held; total = min (max limit (s.price LONGEST)) s.total; price = s.price }

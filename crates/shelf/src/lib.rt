@@ -2,28 +2,18 @@
 #![tactic(auto)]
 
 ghost use Rattle.std.specs.Prelude.{◌≡◌, [], Some};
-ghost use Rattle.shelf.specs.Store.{Store, Lawful, has, above, used, priced, with_held, put_answer, put_after, take_answer, take_buffer, take_after, put_fault_number, take_fault_number, refused_text, right};
+ghost use Rattle.shelf.specs.Store.{Store, Lawful, has, above, used, priced, with_held, put_answer, put_after, take_answer, take_buffer, take_after, put_fault_number, take_fault_number};
+ghost use Rattle.common.specs.Texts.{refused_text};
 ghost use Rattle.shelf.specs.Laws.{HeldIsAMap, QuotasJoin, WidestQuota};
 
+use common::Refusal;
 use std::error::Error;
 use std::fmt;
 
 mod quota;
 
+pub use common::{LONGEST, SHORTEST, is_length};
 pub use quota::Quota;
-
-/// The bytes of the shortest packet.
-pub const SHORTEST: usize = 16;
-
-/// The bytes of the longest packet.
-pub const LONGEST: usize = 1500;
-
-/// Whether a packet may have a length.
-pub fn is_length(length: usize) -> bool
-    ensures { result ≡ right length }
-{
-    (SHORTEST..=LONGEST).contains(&length)
-}
 
 /// Why a packet was not put on a shelf.
 #[derive(Clone, Copy, PartialEq, Eq, Debug)]
@@ -49,13 +39,11 @@ impl PutFault {
     }
 }
 
-// Kept beside `wire`'s text of a refusal: a shelf stands on no crate, and a common one would be there for a line.
 impl fmt::Display for PutFault {
     ghost output = { λ fault. Some (refused_text (put_fault_number fault)) };
 
     fn fmt<W: fmt::Write>(&self, f: &mut fmt::Formatter<W>) -> fmt::Result {
-        let number = self.number();
-        write!(f, "refused {number}")
+        write!(f, "{}", Refusal(self.number()))
     }
 }
 
@@ -83,7 +71,7 @@ impl fmt::Display for TakeFault {
     ghost output = { λ fault. Some (refused_text (take_fault_number fault)) };
 
     fn fmt<W: fmt::Write>(&self, f: &mut fmt::Formatter<W>) -> fmt::Result {
-        write!(f, "refused {}", self.number())
+        write!(f, "{}", Refusal(self.number()))
     }
 }
 

@@ -2,7 +2,8 @@
 use Rattle.std.specs.Prelude.{◌≡◌, ℕ, true, false, List, [], ◌∷◌, ◌++◌, map, replicate, Some, None, Ok, Err}
 use Rattle.shelf.specs.declared.PutFault.TheVariants.{Length, Held, Full}
 use Rattle.shelf.specs.declared.TakeFault.TheVariants.{Short}
-use Rattle.shelf.specs.Store.{Store, above, right, used, priced, with_held, put_answer, put_after, take_answer, take_buffer, take_after, put_fault_number, take_fault_number, capped}
+use Rattle.shelf.specs.Store.{Store, above, used, priced, with_held, put_answer, put_after, take_answer, take_buffer, take_after, put_fault_number, take_fault_number, capped}
+use Rattle.common.specs.Lengths.{right}
 
 -- the shortest packet
 abbrev pub shortest : List ℕ

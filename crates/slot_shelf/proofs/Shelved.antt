@@ -6,7 +6,8 @@ use Rattle.std.proofs.Common.{sym, ◌∙◌, ap, arith}
 use Rattle.std.proofs.lemmas.List.{take_at}
 use Rattle.std.proofs.lemmas.Bool.{lt-ltb, eq-eqb}
 use Rattle.std.proofs.lemmas.Bool.Decides.{nat_tests}
-use Rattle.shelf.specs.Store.{Packets, Up, insert, remove, has, units, lookup, right, above}
+use Rattle.shelf.specs.Store.{Packets, Up, insert, remove, has, units, lookup, above}
+use Rattle.common.specs.Lengths.{right}
 use Rattle.shelf.proofs.Kept.{has_insert, insert_swap, remove_insert, lookup_insert, remove_other}
 use Rattle.slot_shelf.specs.declared.slot.Slot.{Slot}
 use Rattle.slot_shelf.specs.declared.slot.Held.{Held}

@@ -1,7 +1,8 @@
 -- What sixteen slots hold.
 use Rattle.std.specs.Prelude.{◌≡◌, ℕ, ◌^◌, ◌≤◌, min, Bool, true, false, cond, not, ◌&&◌, List, [], ◌∷◌, ◌++◌, length, get_or, take, drop, Some, None, IsNone, IfSome, Option, ◌==◌, nat_lt, slice_index_or}
 use Rattle.std.specs.Option.{option_map, option_map_or, option_and_then}
-use Rattle.shelf.specs.Store.{Packets, Store, insert, has, right}
+use Rattle.shelf.specs.Store.{Packets, Store, insert, has}
+use Rattle.common.specs.Lengths.{right}
 use Rattle.slot_shelf.specs.declared.slot.Slot.{Slot}
 use Rattle.slot_shelf.specs.declared.slot.Held.{Held}
 use Rattle.slot_shelf.specs.declared.table.Place.{Place}

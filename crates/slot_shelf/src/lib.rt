@@ -2,7 +2,8 @@
 #![tactic(auto)]
 
 ghost use Rattle.std.specs.Prelude.{◌≡◌, ◌<◌, ◌≤◌, true, false, [], length, filter, is_some, IfSome, nat_lt};
-ghost use Rattle.shelf.specs.Store.{has, insert, remove, lookup, right, used, with_held, length_of, written};
+ghost use Rattle.shelf.specs.Store.{has, insert, remove, lookup, used, with_held, length_of, written};
+ghost use Rattle.common.specs.Lengths.{right};
 ghost use Rattle.slot_shelf.specs.Slots.{slots_held, slots_sound, slot_store, empty_store, FreeAt, HeldAt};
 ghost use Rattle.slot_shelf.specs.Shelved.{slots_lawful};
 

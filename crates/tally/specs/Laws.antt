@@ -1,7 +1,7 @@
 -- Laws of a tally's step.
 use Rattle.std.specs.Prelude.{◌≡◌, ℕ, ◌+◌, ◌≤◌, length, Some, ◌≢◌}
 use Rattle.std.specs.Option.{unwrap_or}
-use Rattle.ladder.specs.Laws.{Sorted}
+use Rattle.rank.specs.Rows.{Sorted}
 use Rattle.sink.specs.Events.{Event}
 use Rattle.tally.specs.Rows.{row_key, row_before}
 use Rattle.tally.specs.Tallies.{Counts, executed_of, capped32, capped64, summed, added, step}

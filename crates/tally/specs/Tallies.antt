@@ -1,11 +1,12 @@
 -- What a tally means: the executed volume by index, in as many rows as there is room for, and two counts.
-use Rattle.std.specs.Prelude.{ℕ, zero, suc, ◌+◌, ◌/◌, min, cond, List, [], length, take, Some, None, Option, nat_le}
+use Rattle.std.specs.Prelude.{ℕ, ◌+◌, min, cond, List, [], length, take, Option, nat_le}
+use Rattle.std.specs.List.{fold}
 use Rattle.std.specs.Option.{option_map, unwrap_or}
-use Rattle.ladder.specs.Ladders.{entered, looked}
+use Rattle.rank.specs.Rows.{inserted, kept}
 use Rattle.wire.specs.declared.point.DeltaPoint.{DeltaPoint}
 use Rattle.wire.specs.declared.point.Reason.{Reason}
 use Rattle.wire.specs.declared.point.Reason.TheVariants.{Order, Cancel, Execution, Multiple}
-use Rattle.wire.specs.Points.{delta_point}
+use Rattle.wire.specs.Points.{points_in_delta}
 use Rattle.wire.specs.Reading.{Msg, reset, unavailable, mapping, full, delta}
 use Rattle.sink.specs.Events.{Event, data_of, loss_of, refresh_of, restart_of}
 use Rattle.tally.specs.declared.row.Row.{Row}
@@ -23,6 +24,10 @@ pub record Counts : Type 0 where
 abbrev pub meant : Tally → Counts
 meant t = record { room = length t.rows.now; rows = take t.used t.rows.now; missed = t.counters.missed; losses = t.counters.losses }
 
+-- the rows that a tally was lent, used or free
+abbrev pub lent : Tally → List Row
+lent t = t.rows.now
+
 -- all rows free
 abbrev pub fresh : ℕ → Counts
 fresh room = record { room = room; rows = []; missed = 0; losses = 0 }
@@ -36,11 +41,15 @@ capped32 n = min n 4294967295
 
 -- the executed volume of an index, if it has a row
 abbrev pub executed_of : ℕ → List Row → Option ℕ
-executed_of i rs = option_map (λ r. r.executed) (looked row_key row_before i rs)
+executed_of i rs = option_map (λ r. r.executed) (kept row_key row_before i rs)
+
+-- the row of an index with a quantity more
+abbrev pub row_with : ℕ → ℕ → List Row → Row
+row_with i q rs = record { index = i; executed = capped64 (unwrap_or (executed_of i rs) 0 + q) }
 
 -- rows with a quantity more for an index
 abbrev pub summed : ℕ → ℕ → List Row → List Row
-summed i q rs = entered row_key row_before (record { index = i; executed = capped64 (unwrap_or (executed_of i rs) 0 + q) }) rs
+summed i q rs = inserted row_key row_before (row_with i q rs) rs
 
 -- the rows become rs, or a miss is counted where they are too many
 abbrev pub become : List Row → Counts → Counts
@@ -63,14 +72,9 @@ by_reason Multiple i q c = c
 abbrev pub point_added : ℕ → DeltaPoint → Counts → Counts
 point_added i p c = by_reason p.reason i p.changed c
 
-abbrev pub maybe_added : ℕ → Option DeltaPoint → Counts → Counts
-maybe_added i None c = c
-maybe_added i (Some p) c = point_added i p c
-
--- the first points of a delta, in their order
-abbrev pub points_added : ℕ → List ℕ → ℕ → Counts → Counts
-points_added i ps zero c = c
-points_added i ps (suc k) c = maybe_added i (delta_point ps k) (points_added i ps k c)
+-- points of a delta, in their order
+abbrev pub points_added : ℕ → List DeltaPoint → Counts → Counts
+points_added i ps c = fold (λ c p. point_added i p c) c ps
 
 -- only a delta has executions
 abbrev pub told : Msg → Counts → Counts
@@ -78,7 +82,7 @@ told (reset n) c = c
 told (unavailable b e) c = c
 told mapping c = c
 told (full i s ps) c = c
-told (delta i s ps) c = points_added i ps (length ps / 28) c
+told (delta i s ps) c = points_added i (points_in_delta ps) c
 
 -- what an event makes of a tally: restart and refresh leave it as it is
 abbrev pub step : Event → Counts → Counts

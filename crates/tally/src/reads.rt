@@ -1,6 +1,6 @@
 //! What a tally shows. A read changes nothing.
-ghost use Rattle.std.specs.Prelude.{◌≡◌, ◌<◌, true, false, slice_index_or, IfSome, MatchResult};
-ghost use Rattle.ladder.specs.Ladders.{Found};
+ghost use Rattle.std.specs.Prelude.{◌≡◌, ◌<◌, slice_index_or, IfSome, MatchResult};
+ghost use Rattle.ladder.specs.Tables.{There, Missing};
 ghost use Rattle.tally.specs.Rows.{row_key, row_before, blank};
 ghost use Rattle.tally.specs.Tallies.{meant, executed_of};
 
@@ -23,7 +23,7 @@ impl Tally<'_> {
 
     // Where the row of an index is, or else where one would be added.
     pub(crate) fn place(&self, index: u16) -> Result<usize, usize>
-        ensures { MatchResult result (λ at. Found row_key row_before index (meant self.now).rows true at) (λ at. Found row_key row_before index (meant self.now).rows false at) }
+        ensures { MatchResult result (There row_key row_before index (meant self.now).rows) (Missing row_key row_before index (meant self.now).rows) }
     {
         match self.guess(index) {
             Some(at) => Ok(at),
@@ -32,7 +32,7 @@ impl Tally<'_> {
     }
 
     /// The executed volume of an index, if it has a row.
-    #[tactic(auto, using(crate::proofs::Found::found_executed))]
+    #[tactic(auto, using(crate::proofs::Found::there_executed))]
     pub fn executed(&self, index: u16) -> Option<u64>
         ensures { result ≡ executed_of index (meant self.now).rows }
     {

@@ -1,14 +1,26 @@
 //! The rows of a tally.
 ghost use Rattle.tally.specs.Rows.{row_key, row_before};
-ghost use Rattle.ladder.proofs.Numbers.{rising_irreflexive, rising_transitive, rising_total};
+ghost use Rattle.rank.proofs.Numbers.{rising_one, rising_transitive};
 
-use ladder::Rank;
+use rank::Rank;
 
 /// A row: the executed volume of an index.
 #[derive(Clone, Copy, PartialEq, Eq, Debug, Default)]
 pub struct Row {
     pub index: u16,
     pub executed: u64,
+}
+
+impl Row {
+    ghost use Rattle.std.specs.Prelude.{◌≡◌, ◌+◌};
+    ghost use Rattle.tally.specs.Tallies.{capped64};
+
+    // The executed volume with a quantity more.
+    pub(crate) fn plus(self, quantity: u32) -> u64
+        ensures { result ≡ capped64 (self.executed + quantity) }
+    {
+        self.executed.saturating_add(u64::from(quantity))
+    }
 }
 
 /// The rank of rows: the lower index first.
@@ -25,11 +37,9 @@ impl Rank for ByIndex {
 
     ghost before = { row_before };
 
-    ghost irreflexive = { rising_irreflexive };
+    ghost exactly_one = { rising_one };
 
     ghost transitive = { rising_transitive };
-
-    ghost total = { rising_total };
 
     fn key(row: &Row) -> u16 {
         row.index

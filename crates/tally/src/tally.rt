@@ -1,8 +1,8 @@
 //! The tally: executed volume by index.
-ghost use Rattle.std.specs.Prelude.{◌≡◌, ◌/◌, ◌≤◌, length, take};
-ghost use Rattle.ladder.specs.Ladders.{entered};
-ghost use Rattle.ladder.specs.Laws.{Sorted};
-ghost use Rattle.tally.specs.Rows.{row_key, row_before, Sorted-prop};
+ghost use Rattle.std.specs.Prelude.{◌≡◌, ◌≤◌, length, take};
+ghost use Rattle.rank.specs.Rows.{Sorted, inserted, Sorted-prop};
+ghost use Rattle.wire.specs.Points.{points_in_delta};
+ghost use Rattle.tally.specs.Rows.{row_key, row_before};
 
 use crate::row::{ByIndex, Row};
 use ladder::enter;
@@ -27,16 +27,19 @@ pub struct Tally<'a> {
     pub(crate) used: usize,
     pub(crate) counters: Counters,
     ghost few: { used ≤ length rows.now },
-    ghost ordered: { Sorted row_key row_before (take used rows.now) } by { Sorted-prop (take used rows.now) },
+    ghost ordered: { Sorted row_key row_before (take used rows.now) } by { Sorted-prop row_key row_before (take used rows.now) },
 }
 
 impl<'a> Tally<'a> {
-    ghost use Rattle.tally.specs.Tallies.{meant, fresh};
+    ghost use Rattle.sink.specs.Events.{restart_of};
+    ghost use Rattle.tally.specs.Tallies.{meant, fresh, lent, step as stepped};
     ghost use Rattle.tally.specs.Laws.{InOrder};
 
-    /// A tally of the lent rows, all free.
+    /// A tally of the lent rows, all free and as they were. It stands as after a restart.
     pub fn new(rows: &'a mut [Row]) -> Tally<'a>
         ensures free { meant result ≡ fresh (length rows.old) }
+        ensures restarted { meant result ≡ stepped (restart_of 1) (fresh (length rows.old)) }
+        ensures rows { lent result ≡ rows.old }
         ensures ordered { InOrder (meant result) }
     {
         Tally {
@@ -52,7 +55,7 @@ impl Tally<'_> {
 
     // Adds a row, or counts a miss where none is free.
     fn add_row(&mut self, row: Row)
-        ensures { meant self.new ≡ become (entered row_key row_before row (meant self.old).rows) (meant self.old) }
+        ensures { meant self.new ≡ become (inserted row_key row_before row (meant self.old).rows) (meant self.old) }
     {
         match enter::<ByIndex>(self.rows, self.used, row) {
             Some(used) => self.used = used,
@@ -65,15 +68,14 @@ impl Tally<'_> {
     fn add(&mut self, index: u16, quantity: u32)
         ensures { meant self.new ≡ added index quantity (meant self.old) }
     {
-        let quantity = u64::from(quantity);
         match self.place(index) {
             Ok(at) => {
-                let executed = self.rows[at].executed.saturating_add(quantity);
+                let executed = self.rows[at].plus(quantity);
                 self.rows[at] = Row { index, executed };
             }
             Err(_) => self.add_row(Row {
                 index,
-                executed: quantity,
+                executed: u64::from(quantity),
             }),
         }
     }
@@ -89,7 +91,7 @@ impl Tally<'_> {
 
     // Adds what the points of a delta say, in their order.
     fn add_points(&mut self, index: u16, points: &[u8])
-        ensures { meant self.new ≡ points_added index points.now (length points.now / 28) (meant self.old) }
+        ensures { meant self.new ≡ points_added index (points_in_delta points.now) (meant self.old) }
     {
         for point in Points::<DeltaPoint>::new(points) {
             self.add_point(index, point);

@@ -4,7 +4,7 @@
 mod digest;
 
 use anyhow::anyhow;
-use books::{Book, BookKeeper, Level, Tables};
+use books::{BookKeeper, BookRow, Level, Tables};
 use capture::{FILE_HEADER, Format};
 use chain_shelf::{ChainShelf, Region};
 use channel::{Channel, ChannelFault, OfferFault};
@@ -71,13 +71,14 @@ fn run(rt: &HostRuntime, name: &str, depth: u16) -> anyhow::Result<()> {
     let depth = usize::from(depth);
     let file = fs::read(rt, name)?;
     let packets = payloads(alloc, &file)?;
-    let mut books = vec![in alloc; Book::UNKNOWN; usize::from(BOOKS)]?;
+    let mut books = vec![in alloc; BookRow::UNKNOWN; usize::from(BOOKS)]?;
     let levels = usize::from(BOOKS) * depth;
     let mut buys = vec![in alloc; Level::default(); levels]?;
     let mut sells = vec![in alloc; Level::default(); levels]?;
     let mut rows = vec![in alloc; Row::default(); ROWS]?;
     let region = Region::try_from(vec![in alloc; 0_u8; RECORDS * RECORD]?)?;
-    let tables = Tables::check(&mut books, &mut buys, &mut sells, depth)?;
+    let tables = Tables::check(&mut books, &mut buys, &mut sells, depth)
+        .map_err(|refused| refused.fault)?;
     let board = Twin::new(BookKeeper::new(tables), Tally::new(&mut rows));
     let mut channel = Channel::new(board, ChainShelf::new(region));
     channel.make(1, b"TIMING", 1)?;
@@ -85,7 +86,7 @@ fn run(rt: &HostRuntime, name: &str, depth: u16) -> anyhow::Result<()> {
     let refused = offer_all(&mut channel, &packets)?;
     let time = start.elapsed(rt)?;
     let sink = channel.sink();
-    let bytes = usize::from(BOOKS) * size_of::<Book>()
+    let bytes = usize::from(BOOKS) * size_of::<BookRow>()
         + 2 * levels * size_of::<Level>()
         + ROWS * size_of::<Row>()
         + RECORDS * RECORD;

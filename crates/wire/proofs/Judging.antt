@@ -1,8 +1,9 @@
 -- Every reading is judged right.
-use Rattle.std.proofs.Common.{◌≡◌, ℕ, ◌+◌, ◌-◌, ◌%◌, ◌<◌, ◌≤◌, Bool, true, false, not, ◌||◌, eqb, ltb, List, length, get_or, drop, Some, None, Ok, Err, Option, Result, sym, refl, ◌∙◌, subst, inl, inr, arith, length-drop}
-use Rattle.std.proofs.lemmas.Bool.{cond_both, eqb-true, eqb-false, not-true, not-false, both_ways, cases_lt, or_cases, ltb-true}
+use Rattle.std.proofs.Common.{◌≡◌, ℕ, ◌+◌, ◌-◌, ◌%◌, ◌<◌, ◌≤◌, Bool, true, false, not, ◌||◌, eqb, leb, ltb, List, length, get_or, drop, Some, None, Ok, Err, Option, Result, sym, refl, ◌∙◌, subst, inl, inr, arith, length-drop}
+use Rattle.std.proofs.lemmas.Bool.{cond_both, eqb-true, eqb-false, not-true, not-false, both_ways, cases_lt, and_from, le-leb}
 use Rattle.std.proofs.lemmas.List.{get_or-drop, drop-drop}
 use Rattle.std.proofs.lemmas.Bool.Decides.{nat_tests}
+use Rattle.common.specs.Lengths.{right}
 use Rattle.wire.specs.declared.fault.ReadFault.{ReadFault}
 use Rattle.wire.specs.declared.fault.ReadFault.TheVariants.{Length, Size, Product, Unknown, Flag, Body}
 use Rattle.wire.specs.declared.reader.Kind.{Kind}
@@ -10,7 +11,7 @@ use Rattle.wire.specs.declared.reader.Kind.TheVariants as kind
 use Rattle.wire.specs.declared.message.Packet.{Packet}
 use Rattle.wire.specs.Bytes.{be16, be32}
 use Rattle.wire.specs.Reading.{Msg, Pkt, Hdr, told, and_then, kind_from, allowed, header_in, body_in, reading, reset_in, unavailable_in, mapping_in, full_in, delta_in, unless, wrong_in_full, wrong_in_delta}
-use Rattle.wire.specs.Laws.{Long, Framed, Ours, code, Untyped, flag_right, Headed, fits, wrong_at, RightBelow, message_of, Faulty, Cause, Judged}
+use Rattle.wire.specs.Laws.{Long, Framed, Ours, code, Untyped, Headed, fits, wrong_at, RightBelow, message_of, Faulty, Cause, Judged}
 use Rattle.wire.proofs.Firsts.{Firsts, first_is_first}
 
 then_both : {A B E : Type 0} (P : Result A E → Type 0) (Q : Result B E → Type 0) (f : A → Result B E) (r : Result A E) →
@@ -39,25 +40,18 @@ kind_judged n =
     untyped n a b c d e kind.Full h = d (sym h)
     untyped n a b c d e kind.Delta h = e (sym h)
 
-allowed_right : (k : Kind) (f : ℕ) → allowed k f ≡ flag_right k f
-allowed_right kind.Reset f = refl
-allowed_right kind.Unavailable f = refl
-allowed_right kind.Mapping f = refl
-allowed_right kind.Full f = grind (arith, nat_tests)
-allowed_right kind.Delta f = refl
-
 -- what a header comes to
 HeaderJudged : List ℕ → Result Hdr ReadFault → Type 0
 HeaderJudged p (Ok h) = Headed h.kind p × (h.number ≡ be32 p 4) × (h.flag ≡ get_or p 13 0) × (h.link ≡ get_or p 15 0) × (h.body ≡ drop 16 p)
 HeaderJudged p (Err f) = Cause f p
 
-short_or_long : {n : ℕ} → (ltb n 16 || ltb 1500 n) ≡ true → (16 ≤ n) × (n ≤ 1500) → ⊥
-short_or_long {n} t l = elim (or_cases (ltb n 16) (ltb 1500 n) t) [ inl h ↦ omega (arith, l.0, ltb-true n 16 h) | inr h ↦ omega (arith, l.1, ltb-true 1500 n h) ]
+long_right : {n : ℕ} → not (right n) ≡ true → (16 ≤ n) × (n ≤ 1500) → ⊥
+long_right {n} t l = both_ways (right n) (not-true _ t) (and_from (leb 16 n) (leb n 1500) (le-leb 16 n l.0) (le-leb n 1500 l.1))
 
 header_judged : (p : List ℕ) → HeaderJudged p (header_in p)
 unfolding HeaderJudged KindJudged
 header_judged p =
-    cond_both (ltb (length p) 16 || ltb 1500 (length p)) (Err Length) _ (HeaderJudged p) (λ t l. short_or_long t l) (λ a.
+    cond_both (not (right (length p))) (Err Length) _ (HeaderJudged p) (λ t l. long_right t l) (λ a.
     let l : Long p = (grind (arith, nat_tests), grind (arith, nat_tests)) in
     cond_both (not (eqb (be16 p 0 + 2) (length p))) (Err Size) _ (HeaderJudged p) (λ t. (l, eqb-false _ _ (not-true _ t))) (λ b.
     let f : Framed p = (l, eqb-true _ _ (not-false _ b)) in
@@ -65,8 +59,8 @@ header_judged p =
     let o : Ours p = (f, eqb-true _ _ (not-false _ c)) in
     then_both (KindJudged (be16 p 2)) (HeaderJudged p) _ (kind_from (be16 p 2)) (kind_judged (be16 p 2))
     (λ k t. cond_both (not (allowed k (get_or p 13 0))) (Err Flag) _ (HeaderJudged p)
-    (λ d. (o, (k, t, sym (allowed_right k (get_or p 13 0)) ∙ not-true _ d)))
-    (λ d. (record { ours = o; typed = t; flagged = sym (allowed_right k (get_or p 13 0)) ∙ not-false _ d }, refl, refl, refl, refl)))
+    (λ d. (o, (k, t, not-true _ d)))
+    (λ d. (record { ours = o; typed = t; flagged = not-false _ d }, refl, refl, refl, refl)))
     (λ e t. let C : ReadFault → Type 0 = λ f. Cause f p in subst C (sym t.0) (o, t.1)))))
 
 -- what a body comes to

@@ -3,14 +3,15 @@
 use Rattle.std.specs.Prelude.{◌≡◌, ℕ, ◌+◌, ◌-◌, ◌%◌, ◌<◌, ◌≤◌, Bool, true, false, not, ◌&&◌, ◌||◌, List, length, drop, Ok, Err, Result, ◌==◌, ◌≢◌, nat_le, nat_lt, slice_index}
 use Rattle.wire.specs.declared.fault.ReadFault.{ReadFault}
 use Rattle.wire.specs.declared.fault.ReadFault.TheVariants.{Length, Size, Product, Unknown, Flag, Body}
+use Rattle.common.specs.declared.TheConstants.{SHORTEST, LONGEST}
 use Rattle.wire.specs.declared.reader.Kind.{Kind}
 use Rattle.wire.specs.declared.reader.Kind.TheVariants as kind
 use Rattle.wire.specs.Bytes.{be16, be32}
-use Rattle.wire.specs.Reading.{Msg, Pkt, reset, unavailable, mapping, full, delta, side, reason}
+use Rattle.wire.specs.Reading.{Msg, Pkt, reset, unavailable, mapping, full, delta, allowed, side, reason}
 
 -- 16 to 1,500 bytes
 abbrev pub Long : List ℕ → Type 0
-Long p = (16 ≤ length p) × (length p ≤ 1500)
+Long p = (SHORTEST ≤ length p) × (length p ≤ LONGEST)
 
 -- whose size is its own
 abbrev pub Framed : List ℕ → Type 0
@@ -32,19 +33,11 @@ code kind.Delta = 231
 abbrev pub Untyped : ℕ → Type 0
 Untyped n = (k : Kind) → code k ≢ n
 
--- flags 1 and 2, and for a full update 5 and 6 too
-abbrev pub flag_right : Kind → ℕ → Bool
-flag_right kind.Reset f = f == 1 || f == 2
-flag_right kind.Unavailable f = f == 1 || f == 2
-flag_right kind.Mapping f = f == 1 || f == 2
-flag_right kind.Delta f = f == 1 || f == 2
-flag_right kind.Full f = (f == 1 || f == 2) || (f == 5 || f == 6)
-
 -- a packet of a type, its header right
 pub record Headed (k : Kind) (p : List ℕ) : Type 0 where
   pub ours : Ours p
   pub typed : code k ≡ be16 p 2
-  pub flagged : flag_right k (slice_index p 13) ≡ true
+  pub flagged : allowed k (slice_index p 13) ≡ true
 
 -- the lengths that a type may have
 abbrev pub fits : Kind → ℕ → Bool
@@ -102,7 +95,7 @@ Cause Length p = Long p → ⊥
 Cause Size p = Long p × (be16 p 0 + 2 ≢ length p)
 Cause Product p = Framed p × (slice_index p 12 ≢ 115)
 Cause Unknown p = Ours p × Untyped (be16 p 2)
-Cause Flag p = Ours p × ((k : Kind) × (code k ≡ be16 p 2) × (flag_right k (slice_index p 13) ≡ false))
+Cause Flag p = Ours p × ((k : Kind) × (code k ≡ be16 p 2) × (allowed k (slice_index p 13) ≡ false))
 Cause (Body o) p = (k : Kind) × Headed k p × Faulty k p o
 
 -- a packet that is read is right, and one that is refused has its cause

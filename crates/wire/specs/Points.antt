@@ -1,6 +1,7 @@
 -- The points of a full update and of a delta. An offset counts from the first point.
 use Rattle.std.specs.Prelude.{◌≡◌, ℕ, ◌+◌, ◌*◌, ◌/◌, cond, List, map, length, drop, Some, None, Ok, Err, Option, Result, ◌==◌, nat_lt, slice_index}
 use Rattle.std.specs.List.{range_with_len}
+use Rattle.std.specs.Result.{result_unwrap_or}
 use Rattle.wire.specs.declared.point.Side.{Side}
 use Rattle.wire.specs.declared.point.Side.TheVariants.{Buy, Sell}
 use Rattle.wire.specs.declared.point.Reason.{Reason}
@@ -22,14 +23,6 @@ reason_letter Cancel = 67
 reason_letter Execution = 69
 reason_letter Multiple = 88
 
--- the side of a letter; a packet that is read has B or S
-abbrev pub side_of : ℕ → Side
-side_of b = cond (b == 66) Buy Sell
-
--- the reason of a letter; a packet that is read has O, C, E or X
-abbrev pub reason_of : ℕ → Reason
-reason_of b = cond (b == 79) Order (cond (b == 67) Cancel (cond (b == 69) Execution Multiple))
-
 -- the side or the reason that a letter names, where it names one
 abbrev pub side_in : ℕ → Result Side UnknownLetter
 side_in b = cond (b == 66) (Ok Buy) (cond (b == 83) (Ok Sell) (Err (record { 0 = b })))
@@ -41,6 +34,13 @@ reason_in b =
     (cond (b == 69) (Ok Execution)
     (cond (b == 88) (Ok Multiple)
     (Err (record { 0 = b })))))
+
+-- the side and the reason of a letter; a packet that is read has a letter of each, and any other byte counts as the last of them
+abbrev pub side_of : ℕ → Side
+side_of b = result_unwrap_or (side_in b) Sell
+
+abbrev pub reason_of : ℕ → Reason
+reason_of b = result_unwrap_or (reason_in b) Multiple
 
 -- the point of a full update at an offset
 abbrev pub full_at : List ℕ → ℕ → PricePoint
@@ -69,11 +69,12 @@ module _ {P : Type 0} (size : ℕ) (at : List ℕ → ℕ → P) where
   abbrev pub point_in : List ℕ → ℕ → Option P
   point_in ps i = cond (nat_lt i (length ps / size)) (Some (at ps (i * size))) None
 
-abbrev pub full_point : List ℕ → ℕ → Option PricePoint
-full_point = point_in 12 full_at
+-- the points of a full update, and those of a delta
+abbrev pub points_in_full : List ℕ → List PricePoint
+points_in_full = points 12 full_at
 
-abbrev pub delta_point : List ℕ → ℕ → Option DeltaPoint
-delta_point = point_in 28 delta_at
+abbrev pub points_in_delta : List ℕ → List DeltaPoint
+points_in_delta = points 28 delta_at
 
 -- what begins at an offset behind the first n bytes begins n bytes further in the whole
 abbrev pub Shifts : {P : Type 0} → (List ℕ → ℕ → P) → Type 0

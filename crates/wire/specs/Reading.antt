@@ -1,8 +1,10 @@
 -- What a packet says, or why it is refused. Offsets count from the packet's start.
-use Rattle.std.specs.Prelude.{◌≡◌, ◌≤◌, ℕ, ◌+◌, ◌-◌, ◌%◌, Bool, cond, not, ◌&&◌, ◌||◌, List, length, drop, Some, None, Ok, Err, Option, Result, ◌==◌, nat_lt, slice_index}
+use Rattle.std.specs.Prelude.{◌≡◌, ◌≤◌, ℕ, ◌+◌, ◌-◌, ◌%◌, Bool, cond, not, ◌&&◌, ◌||◌, List, length, drop, is_ok, Some, None, Ok, Err, Option, Result, ◌==◌, nat_lt, slice_index}
 use Rattle.std.specs.Result.{result_map_both}
 use Rattle.wire.specs.declared.fault.ReadFault.{ReadFault}
 use Rattle.wire.specs.declared.fault.ReadFault.TheVariants.{Length, Size, Product, Unknown, Flag, Body}
+use Rattle.common.specs.Lengths.{right}
+use Rattle.wire.specs.declared.reader.TheConstants.{HEADER}
 use Rattle.wire.specs.declared.reader.Kind.{Kind}
 use Rattle.wire.specs.declared.reader.Kind.TheVariants as kind
 use Rattle.wire.specs.declared.reader.Fields.{Fields}
@@ -13,6 +15,7 @@ use Rattle.wire.specs.declared.message.Packet.{Packet}
 use Rattle.wire.specs.declared.message.Class.{Class}
 use Rattle.wire.specs.declared.message.Class.TheVariants as class
 use Rattle.wire.specs.Bytes.{be16, be32, first}
+use Rattle.wire.specs.Points.{side_in, reason_in}
 
 -- a message, its points as bytes
 pub data Msg : Type 0 where
@@ -74,7 +77,7 @@ kind_from n =
     (cond (n == 231) (Ok kind.Delta)
     (Err Unknown)))))
 
--- the flags that a type may have
+-- the flags that a type may have: 1 and 2, and for a full update 5 and 6 too
 abbrev pub allowed : Kind → ℕ → Bool
 allowed kind.Reset f = f == 1 || f == 2
 allowed kind.Unavailable f = f == 1 || f == 2
@@ -84,11 +87,11 @@ allowed kind.Full f = f == 1 || f == 2 || f == 5 || f == 6
 
 -- B or S
 abbrev pub side : ℕ → Bool
-side b = b == 66 || b == 83
+side b = is_ok (side_in b)
 
 -- O, C, E or X
 abbrev pub reason : ℕ → Bool
-reason b = b == 79 || b == 67 || b == 69 || b == 88
+reason b = is_ok (reason_in b)
 
 -- the byte at an offset of a point of a full update is a side, and is wrong
 abbrev pub wrong_in_price_point : ℕ → ℕ → Bool
@@ -115,7 +118,7 @@ unless start None r = r
 
 -- a packet's length, of its body
 abbrev pub whole : List ℕ → ℕ
-whole b = 16 + length b
+whole b = HEADER + length b
 
 -- the fields of a body, by their offset in the packet
 abbrev pub byte_at : List ℕ → ℕ → ℕ
@@ -194,7 +197,7 @@ pub record Fielded (p : List ℕ) (f : Fields) : Type 0 where
 -- the header of a packet, or the first of its refusals
 abbrev pub header_in : List ℕ → Result Hdr ReadFault
 header_in p =
-    cond (nat_lt (length p) 16 || nat_lt 1500 (length p)) (Err Length)
+    cond (not (right (length p))) (Err Length)
     (cond (not (be16 p 0 + 2 == length p)) (Err Size)
     (cond (not (slice_index p 12 == 115)) (Err Product)
     (and_then (kind_from (be16 p 2)) (λ k.

@@ -1,5 +1,6 @@
 -- The texts of sides, reasons and refusals.
 use Rattle.std.specs.Prelude.{ℕ, List, ◌++◌, Some, None, codes, decimal, Option}
+use Rattle.common.specs.Texts.{refused_text}
 use Rattle.wire.specs.declared.fault.ReadFault.{ReadFault}
 use Rattle.wire.specs.declared.fault.RequestFault.{RequestFault}
 use Rattle.wire.specs.declared.point.Side.{Side}
@@ -25,11 +26,7 @@ offset_text None = codes " by reader"
 offset_text (Some o) = codes " by reader offset=" ++ decimal o
 
 abbrev pub fault_text : ReadFault → List ℕ
-fault_text f = codes "refused " ++ (decimal (fault_number f) ++ offset_text (fault_offset f))
-
--- a refusal by its number
-abbrev pub refused_text : ℕ → List ℕ
-refused_text n = codes "refused " ++ decimal n
+fault_text f = refused_text (fault_number f) ++ offset_text (fault_offset f)
 
 abbrev pub request_fault_text : RequestFault → List ℕ
 request_fault_text f = refused_text (request_fault_number f)

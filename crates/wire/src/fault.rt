@@ -3,6 +3,7 @@ ghost use Rattle.std.specs.Prelude.{◌≡◌, Some};
 ghost use Rattle.wire.specs.Faults.{fault_number, fault_offset, request_fault_number};
 ghost use Rattle.wire.specs.Texts.{fault_text, request_fault_text};
 
+use common::Refusal;
 use std::error::Error;
 use std::fmt;
 
@@ -53,10 +54,10 @@ impl fmt::Display for ReadFault {
     ghost output = { λ fault. Some (fault_text fault) };
 
     fn fmt<W: fmt::Write>(&self, f: &mut fmt::Formatter<W>) -> fmt::Result {
-        let number = self.number();
+        let refusal = Refusal(self.number());
         match self.offset() {
-            Some(offset) => write!(f, "refused {number} by reader offset={offset}"),
-            None => write!(f, "refused {number} by reader"),
+            Some(offset) => write!(f, "{refusal} by reader offset={offset}"),
+            None => write!(f, "{refusal} by reader"),
         }
     }
 }
@@ -88,7 +89,7 @@ impl fmt::Display for RequestFault {
     ghost output = { λ fault. Some (request_fault_text fault) };
 
     fn fmt<W: fmt::Write>(&self, f: &mut fmt::Formatter<W>) -> fmt::Result {
-        write!(f, "refused {}", self.number())
+        write!(f, "{}", Refusal(self.number()))
     }
 }
 

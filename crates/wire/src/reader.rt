@@ -10,8 +10,7 @@ use crate::fault::ReadFault;
 use crate::message::{Message, Packet};
 use crate::point::{DeltaPoint, PricePoint, Reason};
 use crate::points::Point;
-
-const LONGEST: usize = 1500;
+use common::is_length;
 
 const HEADER: usize = 16;
 
@@ -330,7 +329,7 @@ fn read_header<'a>(packet: &'a [u8]) -> Result<Header<'a>, ReadFault>
     ensures { told_header result ≡ header_in packet.now }
 {
     let fields = fields_of(packet).ok_or(ReadFault::Length)?;
-    if packet.len() > LONGEST {
+    if !is_length(packet.len()) {
         return Err(ReadFault::Length);
     }
     if fields.size as usize + 2 != packet.len() {

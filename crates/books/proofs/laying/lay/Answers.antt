@@ -1,7 +1,7 @@
 use Rattle.std.proofs.Common.{◌≡◌, ◌+◌, ◌<◌, true, ◌∷◌, length, take, set, sym, refl, ap, ◌∙◌, arith, rules}
 use Rattle.std.proofs.lemmas.List.{length-set}
-use Rattle.books.specs.Levels.{named}
-use Rattle.books.specs.Entering.{with_levels, filled, points_of}
+use Rattle.book_model.specs.Levels.{named}
+use Rattle.book_model.specs.Entering.{with_levels, filled, points_of}
 use Rattle.books.specs.Laying.{behind, pending}
 use Rattle.books.proofs.Behind.{laid, laid_sorted, taken_next}
 use Rattle.books.proofs.laying.lay.Goals as goal

@@ -1,7 +1,7 @@
 use Rattle.std.proofs.Common.{◌≡◌, ◌≤◌, true, [], length, take}
-use Rattle.ladder.specs.Laws.{Sorted}
-use Rattle.books.specs.Levels.{price_of, before}
-use Rattle.books.specs.Entering.{Known, levels, with_levels, filled, points_of}
+use Rattle.rank.specs.Rows.{Sorted}
+use Rattle.book_model.specs.Levels.{price_of, before}
+use Rattle.book_model.specs.Entering.{Known, levels, with_levels, filled, points_of}
 use Rattle.books.specs.Laying.{pending}
 use Rattle.books.proofs.laying.lay.Given as goal
 

@@ -1,5 +1,6 @@
 use Rattle.std.proofs.Common.{◌≡◌, ℕ, ◌+◌, ◌-◌, ◌≤◌, Bool, ap, sym, ◌∙◌, arith}
-use Rattle.books.specs.Keepers.{keeper_means, book_of}
+use Rattle.book_model.specs.Keepers.{book_of}
+use Rattle.books.specs.Keepers.{keeper_means}
 use Rattle.reports.specs.DayBook.{has_state, count_state}
 use Rattle.reports.proofs.EachMore.{count_yes, count_no}
 use Rattle.reports.proofs.day_book.count_state.Goals as goal

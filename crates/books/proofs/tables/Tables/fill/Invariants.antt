@@ -1,6 +1,7 @@
 use Rattle.std.proofs.Common.{◌≡◌, suc}
-use Rattle.books.specs.Entering.{filled, points_of}
-use Rattle.books.specs.Keepers.{tables_known, changed_at}
+use Rattle.book_model.specs.Entering.{filled, points_of}
+use Rattle.books.specs.Keepers.{tables_known}
+use Rattle.book_model.specs.Keepers.{changed_at}
 use Rattle.books.proofs.tables.Tables.fill.Given as goal
 
 -- the points that are left make of the book what all make of it as it was

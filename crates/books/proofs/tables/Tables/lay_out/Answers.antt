@@ -1,6 +1,7 @@
 use Rattle.std.proofs.Common.{suc, ap, ◌∙◌}
-use Rattle.books.specs.Entering.{filled, points_of}
-use Rattle.books.specs.Keepers.{tables_known, changed_at}
+use Rattle.book_model.specs.Entering.{filled, points_of}
+use Rattle.books.specs.Keepers.{tables_known}
+use Rattle.book_model.specs.Keepers.{changed_at}
 use Rattle.books.proofs.Behind.{taken_next}
 use Rattle.books.proofs.Filling.{leaves_among, leaves_both}
 use Rattle.books.proofs.tables.Tables.lay_out.Goals as goal

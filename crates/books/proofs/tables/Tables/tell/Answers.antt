@@ -1,7 +1,17 @@
 use Rattle.std.proofs.Common.{refl, ◌∙◌}
-use Rattle.books.specs.Entering.{points_of}
+use Rattle.book_model.specs.Entering.{begun, points_of}
+use Rattle.books.specs.Tabled.{blank}
+use Rattle.books.proofs.Rows.{row_put}
+use Rattle.books.proofs.Told.{begun_ordered}
 use Rattle.books.proofs.Filling.{untaken, tells}
 use Rattle.books.proofs.tables.Tables.tell.Goals as goal
+
+pub invariant_of-self-clause-ordered : goal.invariant_of-self-clause-ordered
+invariant_of-self-clause-ordered g c =
+    let t = c.args.self.now in
+    let i = c.in-Some.i in
+    let s = c.args.start in
+    begun_ordered t i s _ (row_put t i c.in-Some.ensures.in_books (record { book = c.in-Some-begun.book }) blank (begun s) (λ xs ys. (c.in-Some-begun.ensures xs ys).1))
 
 pub returns-in_default-begun : goal.returns-in_default-begun
 returns-in_default-begun g c =

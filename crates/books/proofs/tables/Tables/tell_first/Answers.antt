@@ -1,7 +1,8 @@
 use Rattle.std.proofs.Common.{suc, ◌∷◌, sym, refl, ap, ◌∙◌}
-use Rattle.books.specs.Levels.{named}
-use Rattle.books.specs.Entering.{filled, points_of}
-use Rattle.books.specs.Keepers.{tables_known, changed_at}
+use Rattle.book_model.specs.Levels.{named}
+use Rattle.book_model.specs.Entering.{filled, points_of}
+use Rattle.books.specs.Keepers.{tables_known}
+use Rattle.book_model.specs.Keepers.{changed_at}
 use Rattle.books.specs.Laying.{pending}
 use Rattle.books.proofs.Filling.{stops, goes_on}
 use Rattle.books.proofs.tables.Tables.tell_first.Goals as goal

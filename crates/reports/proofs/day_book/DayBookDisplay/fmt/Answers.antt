@@ -1,5 +1,6 @@
 use Rattle.std.proofs.Common.{ℕ, ◌+◌, ◌-◌, List, arith, rules}
-use Rattle.books.specs.Keepers.{keeper_means, book_of}
+use Rattle.book_model.specs.Keepers.{book_of}
+use Rattle.books.specs.Keepers.{keeper_means}
 use Rattle.reports.specs.DayBook.{book_rows}
 use Rattle.reports.proofs.Written.{one_next}
 use Rattle.reports.proofs.day_book.DayBookDisplay.fmt.Goals as goal

@@ -1,6 +1,6 @@
 use Rattle.std.proofs.Common.{◌+◌, ◌++◌, get_or, arith, rules}
 use Rattle.std.proofs.Output.{has_written_append}
-use Rattle.books.specs.declared.level.Level.{Level}
+use Rattle.book_model.specs.declared.level.Level.{Level}
 use Rattle.reports.specs.DayBook.{level_row}
 use Rattle.reports.proofs.Numbered.{side_next}
 use Rattle.reports.proofs.day_book.SideRowsDisplay.fmt.Goals as goal

@@ -1,5 +1,6 @@
 use Rattle.std.proofs.Common.{ℕ, ◌+◌, ◌-◌, List, arith, rules}
-use Rattle.books.specs.Keepers.{keeper_means, book_of}
+use Rattle.book_model.specs.Keepers.{book_of}
+use Rattle.books.specs.Keepers.{keeper_means}
 use Rattle.reports.specs.Preview.{book_line}
 use Rattle.reports.proofs.Written.{one_next}
 use Rattle.reports.proofs.preview.BookLinesDisplay.fmt.Goals as goal

@@ -1,26 +1,26 @@
 use Rattle.std.proofs.Common.{◌∙◌, refl, ap, arith, rules}
 use Rattle.std.proofs.lemmas.List.{length-set}
-use Rattle.ladder.specs.Ladders.{entered}
+use Rattle.rank.specs.Rows.{inserted}
 use Rattle.tally.specs.Rows.{row_key, row_before}
 use Rattle.tally.specs.Tallies.{meant, become}
-use Rattle.tally.proofs.Found.{found_added, none_added, writes_sorted}
+use Rattle.tally.proofs.Found.{row_of, written_sorted, there_added, missing_added}
 use Rattle.tally.proofs.tally.Tally.add.Goals as goal
 
 pub invariant_of-self : goal.invariant_of-self
 invariant_of-self c =
     let t = c.args.self.now in record {
-      few = omega (arith, length-set t.rows.now c.in-Ok.at (record { index = c.args.index; executed = c.saturating_add-executed.result }), t.few);
-      ordered = writes_sorted c.args.index c.args.quantity c.saturating_add-executed.result t.rows.now t.used c.in-Ok.at (search rules) c.in-Ok.ensures t.ordered;
+      few = omega (arith, length-set t.rows.now c.in-Ok.at (row_of c.args.index c.plus-executed.result), t.few);
+      ordered = written_sorted t.rows.now t.used c.args.index c.in-Ok.at c.in-Ok.ensures c.args.quantity c.plus-executed.result (search rules) t.ordered;
     }
 
 pub returns-in-Ok : goal.returns-in-Ok
 returns-in-Ok c =
     let t = c.args.self.now in
-    found_added c.args.index c.args.quantity c.saturating_add-executed.result (meant t) t.rows.now t.used c.in-Ok.at refl refl (search rules) c.in-Ok.ensures
+    there_added t.rows.now t.used c.args.index c.in-Ok.at c.in-Ok.ensures c.args.quantity c.plus-executed.result (meant t) refl refl (search rules)
 
 pub returns-in-Err : goal.returns-in-Err
 returns-in-Err c =
     let t = c.args.self.now in
     c.add_row.ensures
-    ∙ ap (λ q. become (entered row_key row_before (record { index = c.args.index; executed = q }) (meant t).rows) (meant t)) c.from-quantity.ensures
-    ∙ none_added c.args.index c.args.quantity (meant t) t.rows.now t.used _ refl (omega arith) c.in-Err.ensures
+    ∙ ap (λ q. become (inserted row_key row_before (row_of c.args.index q) (meant t).rows) (meant t)) c.from.ensures
+    ∙ missing_added c.args.index c.args.quantity _ (meant t) (omega arith) c.in-Err.ensures
