@@ -5,7 +5,7 @@ use Rattle.wire.specs.declared.fault.ReadFault.{ReadFault}
 use Rattle.wire.specs.declared.request.TheConstants.{REQUEST}
 use Rattle.wire.specs.Reading.{Msg, Pkt, reading}
 use Rattle.wire.specs.Request.{source_right}
-use Rattle.shelf.specs.declared.TheConstants.{LONGEST}
+use Rattle.common.specs.declared.TheConstants.{LONGEST}
 use Rattle.shelf.specs.Store.{Store}
 use Rattle.shelf.specs.Store as on_shelf
 use Rattle.handover.specs.declared.fault.OfferFault.{OfferFault}

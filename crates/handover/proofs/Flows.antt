@@ -3,7 +3,7 @@ use Rattle.std.proofs.Common.{◌≡◌, ℕ, zero, suc, ◌+◌, ◌-◌, ◌^�
 use Rattle.std.proofs.lemmas.Bool.{cond-true, cond-false, both_ways, cases_Bool, le-leb}
 use Rattle.std.proofs.lemmas.Bool.Decides.{nat_tests}
 use Rattle.std.proofs.lemmas.List.{take_at}
-use Rattle.shelf.specs.declared.TheConstants.{SHORTEST, LONGEST}
+use Rattle.common.specs.declared.TheConstants.{SHORTEST, LONGEST}
 use Rattle.shelf.specs.Store.{Packets, Store, lookup, has, above, remove, take_answer, take_buffer, take_after, length_of, written, with_held, Up, Sized}
 use Rattle.shelf.proofs.Kept.{held_is_a_map, lookup_none, remove_none}
 use Rattle.sink.specs.Events.{Event, loss_of}

@@ -5,7 +5,7 @@ use Rattle.std.specs.Result.{result_err}
 use Rattle.std.specs.Result as results
 use Rattle.wire.specs.declared.fault.ReadFault.{ReadFault}
 use Rattle.wire.specs.Reading.{Msg, Pkt, reset, unavailable, mapping, full, delta, and_then, reading}
-use Rattle.shelf.specs.declared.TheConstants.{LONGEST}
+use Rattle.common.specs.declared.TheConstants.{LONGEST}
 use Rattle.shelf.specs.declared.PutFault.{PutFault}
 use Rattle.shelf.specs.Store.{Store, has, put_answer}
 use Rattle.sink.specs.Events.{Event}
