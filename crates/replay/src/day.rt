@@ -1,6 +1,4 @@
 //! A day: the records of a capture, offered one by one.
-ghost use Rattle.channel.specs.Channels.{state};
-ghost use Rattle.operator.specs.Desks.{IsOwn};
 
 use crate::log::Log;
 use crate::pieces::Pieces;
@@ -33,10 +31,7 @@ fn offer_record<S: Sink + Day, H: Shelf>(
     reading: Reading<'_, '_>,
     record: &Record<'_>,
     scratch: &mut [u8],
-) -> anyhow::Result<()>
-    requires { IsOwn (state (S.Sink) (H.Shelf) replayer.old.desk.channel) replayer.old.desk.hand }
-    ensures { IsOwn (state (S.Sink) (H.Shelf) replayer.new.desk.channel) replayer.new.desk.hand }
-{
+) -> anyhow::Result<()> {
     let datagram = match reading.format.datagram(record) {
         Ok(datagram) => datagram,
         Err(skip) => {
@@ -62,10 +57,7 @@ fn step<S: Sink + Day, H: Shelf>(
     reading: Reading<'_, '_>,
     pieces: &mut Pieces,
     scratch: &mut [u8],
-) -> anyhow::Result<Option<End>>
-    requires { IsOwn (state (S.Sink) (H.Shelf) replayer.old.desk.channel) replayer.old.desk.hand }
-    ensures { IsOwn (state (S.Sink) (H.Shelf) replayer.new.desk.channel) replayer.new.desk.hand }
-{
+) -> anyhow::Result<Option<End>> {
     match reading.format.read_record(pieces.bytes()) {
         Ok(record) => {
             let size = record.size();
@@ -93,10 +85,7 @@ pub(crate) fn replay<S: Sink + Day, H: Shelf>(
     reading: Reading<'_, '_>,
     pieces: &mut Pieces,
     progress: &mut Progress<'_>,
-) -> anyhow::Result<End>
-    requires { IsOwn (state (S.Sink) (H.Shelf) replayer.old.desk.channel) replayer.old.desk.hand }
-    ensures { IsOwn (state (S.Sink) (H.Shelf) replayer.new.desk.channel) replayer.new.desk.hand }
-{
+) -> anyhow::Result<End> {
     let mut scratch = [0; LONGEST];
     // Kept with a bound: the records of a file have no end that a proof knows.
     for _ in 0..u64::MAX {
@@ -112,14 +101,11 @@ pub(crate) fn replay<S: Sink + Day, H: Shelf>(
 pub(crate) fn finish<S: Sink + Day, H: Shelf>(
     replayer: &mut Replayer<S, H>,
     log: &mut Log,
-) -> anyhow::Result<()>
-    requires { IsOwn (state (S.Sink) (H.Shelf) replayer.old.desk.channel) replayer.old.desk.hand }
-    ensures { IsOwn (state (S.Sink) (H.Shelf) replayer.new.desk.channel) replayer.new.desk.hand }
-{
+) -> anyhow::Result<()> {
     let settled = replayer.settle();
     log.copy_rows(replayer.desk().channel().sink())?;
-    if let Some(settled) = settled {
-        log.note_settled(settled)?;
+    if let Some(missing) = settled {
+        log.note_settled(missing)?;
     }
     log.flush()
 }

@@ -81,21 +81,16 @@ impl Log {
         });
     }
 
-    /// Writes what came of a settlement.
-    pub fn note_settled(&mut self, settled: Result<u32, ChannelFault>) -> anyhow::Result<()> {
-        match settled {
-            Ok(missing) => {
-                self.counts.note_settlement(missing);
-                if let Some((asked, time)) = self.out.take() {
-                    let row = SettledRow {
-                        asked,
-                        time,
-                        missing,
-                    };
-                    write!(self.gaps, "{row}")?;
-                }
-            }
-            Err(fault) => self.counts.note_refusal(fault.number()),
+    /// Writes what came of a settlement: how many numbers of the claim are still missing.
+    pub fn note_settled(&mut self, missing: u32) -> anyhow::Result<()> {
+        self.counts.note_settlement(missing);
+        if let Some((asked, time)) = self.out.take() {
+            let row = SettledRow {
+                asked,
+                time,
+                missing,
+            };
+            write!(self.gaps, "{row}")?;
         }
         Ok(())
     }
@@ -139,8 +134,8 @@ impl Log {
         if followed.repeated {
             self.counts.note_repeated_reset();
         }
-        if let Some(settled) = followed.settled {
-            self.note_settled(settled)?;
+        if let Some(missing) = followed.settled {
+            self.note_settled(missing)?;
         }
         if let Some(claimed) = followed.claimed {
             self.note_claimed(claimed, time, buffer)?;

@@ -1,6 +1,4 @@
 //! The memory of a replay, and the replay over it.
-ghost use Rattle.channel.specs.Channels.{state};
-ghost use Rattle.operator.specs.Desks.{IsOwn};
 
 use crate::day::{End, Reading, finish, replay};
 use crate::log::Log;
@@ -89,10 +87,7 @@ fn replay_day<S: Sink + Day, H: Shelf>(
     options: &Options<'_>,
     opened: &mut Opened,
     replayer: &mut Replayer<S, H>,
-) -> anyhow::Result<()>
-    requires { IsOwn (state (S.Sink) (H.Shelf) replayer.old.desk.channel) replayer.old.desk.hand }
-    ensures { IsOwn (state (S.Sink) (H.Shelf) replayer.new.desk.channel) replayer.new.desk.hand }
-{
+) -> anyhow::Result<()> {
     let mut log = Log::create(rt, options.out)?;
     let mut progress = Progress::new(rt, opened.size);
     let filter = Filter {
@@ -136,17 +131,15 @@ fn replay_over<S: Sink + Day + Drop, H: Shelf + Drop>(
     opened: &mut Opened,
     channel: Channel<S, H>,
 ) -> anyhow::Result<()> {
-    let mut desk = Desk::new(channel, None);
+    let mut desk = Desk::new(channel);
     let made = desk.make(options.channel, options.source.as_bytes(), options.first);
     let mut replayer = Replayer::new(desk);
     let ended = match made {
         Ok(()) => replay_day(rt, options, opened, &mut replayer),
         Err(fault) => closed(rt, fault),
     };
-    match replayer.into_desk().close() {
-        Ok(()) => ended,
-        Err(_refused) => unreachable!(),
-    }
+    let _closed = replayer.into_desk().close();
+    ended
 }
 
 // Replays a capture over a shelf, with tables of its own.
