@@ -45,6 +45,12 @@ adds_none : (bytes : List ℕ) (o : Option Held) (h : Packets) → IsNone o → 
 adds_none bytes None h n = refl
 adds_none bytes (Some x) h n = absurd (let z : ◌≡◌ {A = ℕ} 0 1 = cc in omega arith)
 
+-- whatever the bytes of a free slot are, the slots hold the same
+pub held_roomed : (ss : List Slot) (i : ℕ) (r : Room) → IsNone (get_or ss i no_slot).held → slots_held (roomed ss i r) ≡ slots_held ss
+held_roomed [] i r o = refl
+held_roomed (s ∷ ss) zero r o = adds_none r.bytes s.held (slots_held ss) o ∙ sym (adds_none s.room.bytes s.held (slots_held ss) o)
+held_roomed (s ∷ ss) (suc i) r o = ap (adds s.room.bytes s.held) (held_roomed ss i r o)
+
 sound_none : (bytes : List ℕ) (o : Option Held) (h : Packets) → IsNone o → sound_beside h bytes o ≡ true
 sound_none bytes None h n = refl
 sound_none bytes (Some x) h n = absurd (let z : ◌≡◌ {A = ℕ} 0 1 = cc in omega arith)

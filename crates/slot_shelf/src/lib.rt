@@ -100,7 +100,8 @@ impl SlotShelf {
     fn fill(&mut self, place: Place, packet: &[u8])
         requires free { FreeAt self.old.slots.items place }
         requires fits { length packet.now ≤ LONGEST }
-        ensures { self.new.slots.items ≡ roomed self.old.slots.items place.index (fronted (slice_index_or self.old.slots.items place.index no_slot).room packet.now) }
+        ensures after { self.new.slots.items ≡ roomed self.old.slots.items place.index (fronted (slice_index_or self.old.slots.items place.index no_slot).room packet.now) }
+        ensures held { slots_held self.new.slots.items ≡ slots_held self.old.slots.items }
     {
         if let Some(room) = self.lend(place) {
             room.fill(packet);

@@ -10,7 +10,7 @@ invariant_of-self c =
     let k = c.args.number in
     let w : k < 2 ^ 32 = search rules in
     let l : i < length ss = omega (arith, c.args.place.within, c.args.self.now.sixteen) in
-    let e = put_in ss c.fill.new.self.slots.items c.mark_at.new.self.items i k c.args.packet.now l c.fill.ensures c.mark_at.ensures in
+    let e = put_in ss c.fill.new.self.slots.items c.mark_at.new.self.items i k c.args.packet.now l c.fill.ensures.after c.mark_at.ensures in
     record {
       sixteen = ap length e ∙ length-set ss i _ ∙ c.args.self.now.sixteen;
       sound = ap slots_sound e ∙ sound_filled ss i k c.args.packet.now (get_or ss i no_slot) l c.requires.free c.requires.absent c.requires.sized w c.args.self.now.sound;
@@ -22,5 +22,5 @@ returns c =
     let i = c.args.place.index in
     let k = c.args.number in
     let l : i < length ss = omega (arith, c.args.place.within, c.args.self.now.sixteen) in
-    ap slots_held (put_in ss c.fill.new.self.slots.items c.mark_at.new.self.items i k c.args.packet.now l c.fill.ensures c.mark_at.ensures)
+    ap slots_held (put_in ss c.fill.new.self.slots.items c.mark_at.new.self.items i k c.args.packet.now l c.fill.ensures.after c.mark_at.ensures)
     ∙ held_filled ss i k c.args.packet.now (get_or ss i no_slot) l c.requires.free c.requires.absent
