@@ -1,5 +1,8 @@
 -- What the bytes of a region hold, when they are sound, and what a put and a take change.
 use Rattle.std.specs.Prelude.{◌≡◌, ℕ, ◌+◌, ◌-◌, ◌*◌, ◌/◌, ◌<◌, ◌≤◌, cond, ◌⊎◌, List, [], ◌∷◌, length, ◌==◌, ◌≢◌}
+use Rattle.chain_shelf.specs.declared.region.TheConstants.{RECORD, FEWEST, MOST}
+use Rattle.chain_shelf.specs.declared.records.TheConstants.{LINK, NEXT, BODY}
+use Rattle.chain_shelf.specs.declared.packets.TheConstants.{FIRST_ROOM, ROOM}
 use Rattle.chain_shelf.specs.Records.{Mem, mem, records, link, next, number, size, tail, in_use, span, walk, gather, cnt, heads, under, last}
 use Rattle.shelf.specs.Store.{Packets, Store, units, Up, Sized}
 
@@ -9,7 +12,7 @@ Pack = ℕ × List ℕ × List ℕ
 
 -- the packet whose first record is h
 abbrev pub pack : Mem → ℕ → Pack
-pack m h = (number m h, gather m (span 10 (size m h)) h 10 (size m h), walk (link m) (span 10 (size m h)) h)
+pack m h = (number m h, gather m (span BODY (size m h)) h BODY (size m h), walk (link m) (span BODY (size m h)) h)
 
 -- the packets that have these first records
 abbrev pub layout : Mem → List ℕ → List Pack
@@ -41,7 +44,7 @@ held b = packets (packs b)
 
 -- how many records the packets take
 abbrev pub spent : List ℕ → ℕ
-spent b = units (span 10) (held b)
+spent b = units (span BODY) (held b)
 
 -- the free records: as many as the packets leave, record 0 not counted
 abbrev pub free : List ℕ → List ℕ
@@ -66,9 +69,9 @@ pub record Sound (b : List ℕ) : Type 0 where
   pub rising : Up 0 (held b)
   pub sized : Sized (held b)
 
--- 26 to 65,535 whole records
+-- FEWEST to MOST whole records
 abbrev pub Whole : List ℕ → Type 0
-Whole b = (length b ≡ 64 * records b) × (26 ≤ records b) × (records b ≤ 65535)
+Whole b = (length b ≡ RECORD * records b) × (FEWEST ≤ records b) × (records b ≤ MOST)
 
 -- what a shelf keeps of its region
 abbrev pub Kept : List ℕ → Type 0
@@ -76,19 +79,19 @@ Kept b = Whole b × ∥ Sound b ∥₁
 
 -- what a region means as a shelf
 abbrev pub store : List ℕ → Store
-store b = record { held = held b; total = records b - 1; price = span 10 }
+store b = record { held = held b; total = records b - 1; price = span BODY }
 
 -- what an empty shelf means in a region of n bytes
 abbrev pub fresh : ℕ → Store
-fresh n = record { held = []; total = n / 64 - 1; price = span 10 }
+fresh n = record { held = []; total = n / RECORD - 1; price = span BODY }
 
--- r records have room for n bytes, 54 in the first and 62 in each other one, just where r is at least the price of n
+-- r records have room for n bytes, FIRST_ROOM in the first and ROOM in each other one, just where r is at least the price of n
 abbrev pub PriceLaw : Type 0
-PriceLaw = (n r : ℕ) → 1 ≤ r → (n ≤ 54 + 62 * (r - 1) → span 10 n ≤ r) × (span 10 n ≤ r → n ≤ 54 + 62 * (r - 1))
+PriceLaw = (n r : ℕ) → 1 ≤ r → (n ≤ FIRST_ROOM + ROOM * (r - 1) → span BODY n ≤ r) × (span BODY n ≤ r → n ≤ FIRST_ROOM + ROOM * (r - 1))
 
 -- the prices of some lengths
 abbrev pub PricesWorked : Type 0
-PricesWorked = (span 10 54 ≡ 1) × (span 10 55 ≡ 2) × (span 10 116 ≡ 2) × (span 10 117 ≡ 3) × (span 10 1500 ≡ 25)
+PricesWorked = (span BODY 54 ≡ 1) × (span BODY 55 ≡ 2) × (span BODY 116 ≡ 2) × (span BODY 117 ≡ 3) × (span BODY 1500 ≡ 25)
 
 -- p is the first record of the last packet whose number is below k, or 0
 pub record Before (b : List ℕ) (k p : ℕ) : Type 0 where
@@ -102,16 +105,16 @@ end after x old = cond (after == 0) x old
 -- What laying the packet xs in under the number k changes, from m to w: it takes the first free records and stands behind the packet at p.
 pub record LaidIn (m w : Mem) (p k : ℕ) (xs : List ℕ) : Type 0 where
   pub ends : tail w ≡ end (next m p) (link m 0) (tail m)
-  pub counted : in_use w ≡ in_use m + span 10 (length xs)
+  pub counted : in_use w ≡ in_use m + span BODY (length xs)
   pub prev : next w p ≡ link m 0
   pub after : next w (link m 0) ≡ next m p
   pub numbered : number w (link m 0) ≡ k
   pub sized : size w (link m 0) ≡ length xs
-  pub bytes : gather w (span 10 (length xs)) (link m 0) 10 (length xs) ≡ xs
-  pub free : link w 0 ≡ link m (last 0 (walk (link m) (span 10 (length xs)) (link m 0)))
-  pub mark : link w (last 0 (walk (link m) (span 10 (length xs)) (link m 0))) ≡ 0
-  pub links : (s : ℕ) → (s ≢ 0) → (s ≢ last 0 (walk (link m) (span 10 (length xs)) (link m 0))) → link w s ≡ link m s
-  pub others : (s q : ℕ) → q < 64 → cnt s (walk (link m) (span 10 (length xs)) (link m 0)) ≡ 0 → (s ≡ 0 → (2 ≤ q) × (q < 4)) → (s ≡ p → (q < 2) ⊎ (4 ≤ q)) → w s q ≡ m s q
+  pub bytes : gather w (span BODY (length xs)) (link m 0) BODY (length xs) ≡ xs
+  pub free : link w 0 ≡ link m (last 0 (walk (link m) (span BODY (length xs)) (link m 0)))
+  pub mark : link w (last 0 (walk (link m) (span BODY (length xs)) (link m 0))) ≡ 0
+  pub links : (s : ℕ) → (s ≢ 0) → (s ≢ last 0 (walk (link m) (span BODY (length xs)) (link m 0))) → link w s ≡ link m s
+  pub others : (s q : ℕ) → q < RECORD → cnt s (walk (link m) (span BODY (length xs)) (link m 0)) ≡ 0 → (s ≡ 0 → (NEXT ≤ q) × (q < NEXT + 2)) → (s ≡ p → (q < NEXT) ⊎ (NEXT + 2 ≤ q)) → w s q ≡ m s q
 
 -- What taking out the packet with first record h and last record l, behind the one at p, changes, from m to w: its records are the first free ones.
 pub record TakenOut (m w : Mem) (p h l : ℕ) : Type 0 where
@@ -119,5 +122,5 @@ pub record TakenOut (m w : Mem) (p h l : ℕ) : Type 0 where
   pub free : link w 0 ≡ h
   pub back : link w l ≡ link m 0
   pub ends : tail w ≡ end (next m h) p (tail m)
-  pub counted : in_use w ≡ in_use m - span 10 (size m h)
-  pub others : (s q : ℕ) → q < 64 → (s ≡ 0 → (2 ≤ q) × (q < 4)) → (s ≡ l → 2 ≤ q) → (s ≡ p → (q < 2) ⊎ (4 ≤ q)) → w s q ≡ m s q
+  pub counted : in_use w ≡ in_use m - span BODY (size m h)
+  pub others : (s q : ℕ) → q < RECORD → (s ≡ 0 → (NEXT ≤ q) × (q < NEXT + 2)) → (s ≡ l → LINK + 2 ≤ q) → (s ≡ p → (q < NEXT) ⊎ (NEXT + 2 ≤ q)) → w s q ≡ m s q

@@ -1,5 +1,8 @@
--- The bytes of a region as records of 64, and chains of records.
+-- The bytes of a region as records, and chains of records.
 use Rattle.std.specs.Prelude.{ℕ, zero, suc, ◌+◌, ◌-◌, ◌*◌, ◌/◌, ◌<◌, ◌≤◌, min, cond, List, [], ◌∷◌, ◌++◌, length, ◌==◌, nat_lt, slice_index}
+use Rattle.chain_shelf.specs.declared.region.TheConstants.{RECORD}
+use Rattle.chain_shelf.specs.declared.records.TheConstants.{LINK, NEXT, NUMBER, SIZE, LAST, USED, MORE}
+use Rattle.chain_shelf.specs.declared.packets.TheConstants.{ROOM}
 
 -- bytes by record and by place in the record
 abbrev pub Mem : Type 0
@@ -7,11 +10,11 @@ Mem = ℕ → ℕ → ℕ
 
 -- the bytes of a region
 abbrev pub mem : List ℕ → Mem
-mem b r o = slice_index b (64 * r + o)
+mem b r o = slice_index b (RECORD * r + o)
 
 -- how many records a region has
 abbrev pub records : List ℕ → ℕ
-records b = length b / 64
+records b = length b / RECORD
 
 -- two bytes of a record as a number, the low one first
 abbrev pub word : Mem → ℕ → ℕ → ℕ
@@ -19,46 +22,46 @@ word m r o = m r o + 256 * m r (o + 1)
 
 -- the record after r in its chain; of record 0, the first free record
 abbrev pub link : Mem → ℕ → ℕ
-link m r = word m r 0
+link m r = word m r LINK
 
 -- the next packet's first record, or 0; of record 0, the first packet's
 abbrev pub next : Mem → ℕ → ℕ
-next m r = word m r 2
+next m r = word m r NEXT
 
 -- the number of the packet whose first record is r
 abbrev pub number : Mem → ℕ → ℕ
-number m r = word m r 4 + 65536 * word m r 6
+number m r = word m r NUMBER + 65536 * word m r (NUMBER + 2)
 
 -- the length of the packet whose first record is r
 abbrev pub size : Mem → ℕ → ℕ
-size m r = word m r 8
+size m r = word m r SIZE
 
 -- the last packet's first record, or 0, as record 0 has it
 abbrev pub tail : Mem → ℕ
-tail m = word m 0 4
+tail m = word m 0 LAST
 
 -- the units in use, as record 0 has them
 abbrev pub in_use : Mem → ℕ
-in_use m = word m 0 6
+in_use m = word m 0 USED
 
 -- n bytes of record r, from the place o on
 abbrev pub cut : Mem → ℕ → ℕ → ℕ → List ℕ
 cut m r o zero = []
 cut m r o (suc n) = m r o ∷ cut m r (o + 1) n
 
--- how many records n bytes take, from the place o on in the first and from 2 on in the others
+-- how many records n bytes take, from the place o on in the first and from MORE on in the others
 abbrev pub span : ℕ → ℕ → ℕ
-span o n = suc ((n - (64 - o) + 61) / 62)
+span o n = suc ((n - (RECORD - o) + (ROOM - 1)) / ROOM)
 
 -- n records, from s on
 abbrev pub walk : (ℕ → ℕ) → ℕ → ℕ → List ℕ
 walk g zero s = []
 walk g (suc n) s = s ∷ walk g n (g s)
 
--- n bytes through f records, from the place o on in the first and from 2 on in the others
+-- n bytes through f records, from the place o on in the first and from MORE on in the others
 abbrev pub gather : Mem → ℕ → ℕ → ℕ → ℕ → List ℕ
 gather m zero r o n = []
-gather m (suc f) r o n = cut m r o (min n (64 - o)) ++ gather m f (link m r) 2 (n - (64 - o))
+gather m (suc f) r o n = cut m r o (min n (RECORD - o)) ++ gather m f (link m r) MORE (n - (RECORD - o))
 
 -- 1 where q is x, else 0
 abbrev pub hit : ℕ → ℕ → ℕ

@@ -1,9 +1,10 @@
 -- The sizes that a region may have.
 use Rattle.std.specs.Prelude.{◌≡◌, ℕ, ◌*◌, ◌%◌, Bool, true, false, ◌&&◌, ◌==◌, nat_le}
+use Rattle.chain_shelf.specs.declared.region.TheConstants.{RECORD, FEWEST, MOST}
 
--- 26 to 65,535 whole records of 64 bytes
+-- FEWEST to MOST whole records
 abbrev pub fit : ℕ → Bool
-fit n = n % 64 == 0 && (nat_le (26 * 64) n && nat_le n (65535 * 64))
+fit n = n % RECORD == 0 && (nat_le (FEWEST * RECORD) n && nat_le n (MOST * RECORD))
 
 -- some sizes, on both sides of each bound
 abbrev pub SizesWorked : Type 0

@@ -1,7 +1,8 @@
 //! The shelf.
-ghost use Rattle.std.specs.Prelude.{◌≡◌, ◌+◌, ◌-◌, ◌*◌, ◌/◌, ◌≤◌, true, false, length, vec_len, Some};
-ghost use Rattle.shelf.specs.Store.{has, insert, remove, lookup, above, length_of, written};
+ghost use Rattle.std.specs.Prelude.{◌≡◌, ◌+◌, ◌-◌, ◌*◌, ◌/◌, ◌≤◌, true, false, length, vec_len, Some, None, Ok, OnErr};
+ghost use Rattle.shelf.specs.Store.{has, insert, remove, lookup, above, length_of, written, put_answer, put_after, take_answer, take_buffer, take_after};
 ghost use Rattle.common.specs.Lengths.{right};
+ghost use Rattle.chain_shelf.specs.declared.region.TheConstants.{RECORD};
 ghost use Rattle.chain_shelf.specs.Records.{records, span};
 ghost use Rattle.chain_shelf.specs.Chain.{Kept, Before, held, spent, store, fresh};
 ghost use Rattle.chain_shelf.specs.Sounds.{store_lawful};
@@ -122,7 +123,7 @@ impl ChainShelf {
         requires prev { Before self.old.region.items number prev }
         requires proper { right (length packet.now) ≡ true }
         requires absent { has (held self.old.region.items) number ≡ false }
-        requires room { spent self.old.region.items + span 10 (length packet.now) ≤ records self.old.region.items - 1 }
+        requires room { spent self.old.region.items + span BODY (length packet.now) ≤ records self.old.region.items - 1 }
         requires low { self.old.near.number ≤ number }
         ensures held { held self.new.region.items ≡ insert number packet.now (held self.old.region.items) }
         ensures size { length self.new.region.items ≡ length self.old.region.items }
@@ -133,7 +134,7 @@ impl ChainShelf {
     // Moves the packet behind the one at `prev` to the front of the buffer, and answers its length.
     fn take_behind(&mut self, prev: u16, number: u32, buffer: &mut [u8]) -> usize
         requires prev { Before self.old.region.items number prev }
-        requires long { 1500 ≤ length buffer.old }
+        requires long { LONGEST ≤ length buffer.old }
         requires present { has (held self.old.region.items) number ≡ true }
         requires low { self.old.near.number ≤ number }
         ensures held { held self.new.region.items ≡ remove number (held self.old.region.items) }
@@ -152,7 +153,7 @@ impl ChainShelf {
 
 /// The memory, given back.
 impl From<ChainShelf> for Vec<u8> {
-    ghost from_gives = { λ shelf bytes. (bytes ≡ shelf.region) × (vec_len bytes ≡ 64 * ((store shelf.region.items).total + 1)) };
+    ghost from_gives = { λ shelf bytes. (bytes ≡ shelf.region) × (vec_len bytes ≡ RECORD * ((store shelf.region.items).total + 1)) };
 
     fn from(shelf: ChainShelf) -> Vec<u8> {
         let ChainShelf { region, .. } = shelf;
@@ -165,7 +166,11 @@ impl Shelf for ChainShelf {
 
     ghost lawful = { λ s. store_lawful s.region.items s.kept };
 
-    fn put(&mut self, number: u32, packet: &[u8]) -> Result<(), PutFault> {
+    fn put(&mut self, number: u32, packet: &[u8]) -> Result<(), PutFault>
+        ensures answer { result ≡ put_answer (store self.old.region.items) number packet.now }
+        ensures after { store self.new.region.items ≡ put_after (store self.old.region.items) number packet.now }
+        ensures refused { OnErr result (self.new.region ≡ self.old.region) }
+    {
         if !is_length(packet.len()) {
             return Err(PutFault::Length);
         }
@@ -181,7 +186,13 @@ impl Shelf for ChainShelf {
         Ok(())
     }
 
-    fn take(&mut self, number: u32, buffer: &mut [u8]) -> Result<Option<usize>, TakeFault> {
+    fn take(&mut self, number: u32, buffer: &mut [u8]) -> Result<Option<usize>, TakeFault>
+        ensures answer { result ≡ take_answer (store self.old.region.items) number buffer.old }
+        ensures buffer { buffer.new ≡ take_buffer (store self.old.region.items) number buffer.old }
+        ensures after { store self.new.region.items ≡ take_after (store self.old.region.items) number buffer.old }
+        ensures refused { OnErr result (self.new.region ≡ self.old.region) }
+        ensures absent { result ≡ Ok None → self.new.region ≡ self.old.region }
+    {
         if buffer.len() < LONGEST {
             return Err(TakeFault::Short);
         }

@@ -1,5 +1,8 @@
 //! Packets in the chains: laid in, taken out.
 ghost use Rattle.std.specs.Prelude.{◌≡◌, ℕ, ◌+◌, ◌-◌, ◌/◌, ◌%◌, ◌<◌, ◌≤◌, ◌⊎◌, [], length, if◌then◌else◌};
+ghost use Rattle.common.specs.declared.TheConstants.{LONGEST};
+ghost use Rattle.chain_shelf.specs.declared.region.TheConstants.{RECORD};
+ghost use Rattle.chain_shelf.specs.declared.records.TheConstants.{NEXT, BODY};
 ghost use Rattle.chain_shelf.specs.Records.{mem, records, link, next, number as number_of, size as size_of, tail, in_use, span, walk, cnt, Apart, Inside};
 ghost use Rattle.common.specs.Lengths.{right};
 ghost use Rattle.chain_shelf.specs.Chain.{held, end, PriceLaw, PricesWorked, Whole, Kept, Before, LaidIn, TakenOut};
@@ -22,7 +25,7 @@ fn head(bytes: &mut [u8], index: u16, after: u16, number: u32, size: u16)
     ensures after { next (mem bytes.new) index ≡ after }
     ensures number { number_of (mem bytes.new) index ≡ number }
     ensures size { size_of (mem bytes.new) index ≡ size }
-    ensures others { (s q : ℕ) → q < 64 → (s ≡ index → (q < 2) ⊎ (10 ≤ q)) → mem bytes.new s q ≡ mem bytes.old s q }
+    ensures others { (s q : ℕ) → q < RECORD → (s ≡ index → (q < NEXT) ⊎ (BODY ≤ q)) → mem bytes.new s q ≡ mem bytes.old s q }
 {
     write(bytes, index, NEXT, after);
     lay_in(bytes, index, NUMBER, &number.to_le_bytes());
@@ -35,7 +38,7 @@ fn lead(bytes: &mut [u8], free: u16, last: u16, used: u16)
     ensures free { link (mem bytes.new) 0 ≡ free }
     ensures last { tail (mem bytes.new) ≡ last }
     ensures used { in_use (mem bytes.new) ≡ used }
-    ensures others { (s q : ℕ) → q < 64 → (s ≡ 0 → (2 ≤ q) × (q < 4)) → mem bytes.new s q ≡ mem bytes.old s q }
+    ensures others { (s q : ℕ) → q < RECORD → (s ≡ 0 → (NEXT ≤ q) × (q < NEXT + 2)) → mem bytes.new s q ≡ mem bytes.old s q }
 {
     write(bytes, HEAD, LINK, free);
     write(bytes, HEAD, LAST, last);
@@ -57,11 +60,11 @@ fn end_of(bytes: &[u8], at: u16, first: u16) -> u16
 /// Lays a packet into the first free records, behind the packet whose first record is `prev`.
 pub(crate) fn lay_packet(bytes: &mut [u8], prev: u16, number: u32, packet: &[u8])
     requires prev { prev < records bytes.old }
-    requires size { length packet.now ≤ 1500 }
-    requires few { in_use (mem bytes.old) + span 10 (length packet.now) < 65536 }
-    requires apart { Apart (walk (link (mem bytes.old)) (span 10 (length packet.now)) (link (mem bytes.old) 0)) }
-    requires inside { Inside (records bytes.old) (walk (link (mem bytes.old)) (span 10 (length packet.now)) (link (mem bytes.old) 0)) }
-    requires out { cnt prev (walk (link (mem bytes.old)) (span 10 (length packet.now)) (link (mem bytes.old) 0)) ≡ 0 }
+    requires size { length packet.now ≤ LONGEST }
+    requires few { in_use (mem bytes.old) + span BODY (length packet.now) < 65536 }
+    requires apart { Apart (walk (link (mem bytes.old)) (span BODY (length packet.now)) (link (mem bytes.old) 0)) }
+    requires inside { Inside (records bytes.old) (walk (link (mem bytes.old)) (span BODY (length packet.now)) (link (mem bytes.old) 0)) }
+    requires out { cnt prev (walk (link (mem bytes.old)) (span BODY (length packet.now)) (link (mem bytes.old) 0)) ≡ 0 }
     ensures { LaidIn (mem bytes.old) (mem bytes.new) prev number packet.now }
 {
     let first = read(bytes, HEAD, LINK);
@@ -82,8 +85,8 @@ pub(crate) fn unlink(bytes: &mut [u8], prev: u16, first: u16, stop: u16)
     requires first { first < records bytes.old }
     requires stop { stop < records bytes.old }
     requires some { 0 < stop }
-    requires size { size_of (mem bytes.old) first ≤ 1500 }
-    requires used { span 10 (size_of (mem bytes.old) first) ≤ in_use (mem bytes.old) }
+    requires size { size_of (mem bytes.old) first ≤ LONGEST }
+    requires used { span BODY (size_of (mem bytes.old) first) ≤ in_use (mem bytes.old) }
     ensures { TakenOut (mem bytes.old) (mem bytes.new) prev first stop }
 {
     let after = read(bytes, first, NEXT);
@@ -97,8 +100,8 @@ pub(crate) fn unlink(bytes: &mut [u8], prev: u16, first: u16, stop: u16)
 
 /// The records that a packet of a length takes.
 fn span_of(length: usize) -> u16
-    requires { length ≤ 1500 }
-    ensures { result ≡ span 10 length }
+    requires { length ≤ LONGEST }
+    ensures { result ≡ span BODY length }
 {
     if length <= FIRST_ROOM {
         return 1;
@@ -109,7 +112,7 @@ fn span_of(length: usize) -> u16
 /// The price of a length: the records that such a packet takes, or 0 where there is no such packet.
 // Kept as a number, not an Option: it is the price as the trait has it.
 pub fn price_of(length: usize) -> u32
-    ensures is { result ≡ (if right length then span 10 length else 0) }
+    ensures is { result ≡ (if right length then span BODY length else 0) }
     ensures least { PriceLaw }
     ensures worked { PricesWorked }
 {

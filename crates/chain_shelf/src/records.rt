@@ -1,5 +1,6 @@
 //! Records and chains of records.
 ghost use Rattle.std.specs.Prelude.{◌≡◌, ℕ, ◌+◌, ◌-◌, ◌*◌, ◌/◌, ◌%◌, ◌<◌, ◌≤◌, ◌⊎◌, ◌≢◌, length, MatchOption};
+ghost use Rattle.chain_shelf.specs.declared.region.TheConstants.{RECORD};
 ghost use Rattle.chain_shelf.specs.Records.{mem, records, word, link, number, cut, span, walk, gather, cnt, Apart, Inside, last};
 
 use crate::region::RECORD;
@@ -41,7 +42,7 @@ pub(crate) const USED: usize = 6;
 
 /// The number in two bytes of a record, the low one first.
 pub(crate) fn read(bytes: &[u8], index: u16, offset: usize) -> u16
-    requires { (offset < 63) × (index < records bytes.now) }
+    requires { (offset + 2 ≤ RECORD) × (index < records bytes.now) }
     ensures { result ≡ word (mem bytes.now) index offset }
 {
     let at = RECORD * usize::from(index) + offset;
@@ -50,7 +51,7 @@ pub(crate) fn read(bytes: &[u8], index: u16, offset: usize) -> u16
 
 /// The record that a link leads to, or `None` where the link is 0, which ends a chain.
 pub(crate) fn link_at(bytes: &[u8], index: u16, offset: usize) -> Option<u16>
-    requires { (offset < 63) × (index < records bytes.now) }
+    requires { (offset + 2 ≤ RECORD) × (index < records bytes.now) }
     ensures { MatchOption result (word (mem bytes.now) index offset ≡ 0) (λ at. (at ≡ word (mem bytes.now) index offset) × (at ≢ 0)) }
 {
     match read(bytes, index, offset) {
@@ -61,18 +62,18 @@ pub(crate) fn link_at(bytes: &[u8], index: u16, offset: usize) -> Option<u16>
 
 /// Writes two bytes of a record, the low one first.
 pub(crate) fn write(bytes: &mut [u8], index: u16, offset: usize, value: u16)
-    requires { (offset < 63) × (index < records bytes.old) }
+    requires { (offset + 2 ≤ RECORD) × (index < records bytes.old) }
     ensures there { word (mem bytes.new) index offset ≡ value }
-    ensures others { (s q : ℕ) → q < 64 → (s ≡ index → offset ≤ q → q ≤ offset + 1 → ⊥) → mem bytes.new s q ≡ mem bytes.old s q }
+    ensures others { (s q : ℕ) → q < RECORD → (s ≡ index → offset ≤ q → q ≤ offset + 1 → ⊥) → mem bytes.new s q ≡ mem bytes.old s q }
 {
     lay_in(bytes, index, offset, &value.to_le_bytes());
 }
 
 /// Writes bytes into a record.
 pub(crate) fn lay_in(bytes: &mut [u8], index: u16, offset: usize, part: &[u8])
-    requires { (offset + length part.now ≤ 64) × (index < records bytes.old) }
+    requires { (offset + length part.now ≤ RECORD) × (index < records bytes.old) }
     ensures there { cut (mem bytes.new) index offset (length part.now) ≡ part.now }
-    ensures others { (s q : ℕ) → q < 64 → (s ≡ index → offset ≤ q → q < offset + length part.now → ⊥) → mem bytes.new s q ≡ mem bytes.old s q }
+    ensures others { (s q : ℕ) → q < RECORD → (s ≡ index → offset ≤ q → q < offset + length part.now → ⊥) → mem bytes.new s q ≡ mem bytes.old s q }
 {
     let at = RECORD * usize::from(index) + offset;
     bytes[at..at + part.len()].copy_from_slice(part);
@@ -80,15 +81,15 @@ pub(crate) fn lay_in(bytes: &mut [u8], index: u16, offset: usize, part: &[u8])
 
 /// Writes bytes through a chain of records, and says which record is the last.
 pub(crate) fn fill(bytes: &mut [u8], index: u16, offset: usize, part: &[u8]) -> u16
-    requires low { 2 ≤ offset }
-    requires high { offset < 64 }
+    requires low { MORE ≤ offset }
+    requires high { offset < RECORD }
     requires at { index < records bytes.old }
     requires apart { Apart (walk (link (mem bytes.old)) (span offset (length part.now)) index) }
     requires inside { Inside (records bytes.old) (walk (link (mem bytes.old)) (span offset (length part.now)) index) }
     ensures laid { gather (mem bytes.new) (span offset (length part.now)) index offset (length part.now) ≡ part.now }
     ensures last { result ≡ last index (walk (link (mem bytes.old)) (span offset (length part.now)) index) }
     ensures within { result < records bytes.old }
-    ensures others { (s q : ℕ) → q < 64 → (0 < cnt s (walk (link (mem bytes.old)) (span offset (length part.now)) index) → (q < 2) ⊎ ((s ≡ index) × (q < offset))) → mem bytes.new s q ≡ mem bytes.old s q }
+    ensures others { (s q : ℕ) → q < RECORD → (0 < cnt s (walk (link (mem bytes.old)) (span offset (length part.now)) index) → (q < MORE) ⊎ ((s ≡ index) × (q < offset))) → mem bytes.new s q ≡ mem bytes.old s q }
 {
     let room = RECORD - offset;
     if part.len() <= room {
@@ -103,8 +104,8 @@ pub(crate) fn fill(bytes: &mut [u8], index: u16, offset: usize, part: &[u8]) -> 
 
 /// Reads a packet through its chain of records, and says which record is the last.
 pub(crate) fn copy(bytes: &[u8], index: u16, offset: usize, buffer: &mut [u8]) -> u16
-    requires low { 2 ≤ offset }
-    requires high { offset < 64 }
+    requires low { MORE ≤ offset }
+    requires high { offset < RECORD }
     requires at { index < records bytes.now }
     requires inside { Inside (records bytes.now) (walk (link (mem bytes.now)) (span offset (length buffer.old)) index) }
     ensures laid { buffer.new ≡ gather (mem bytes.now) (span offset (length buffer.old)) index offset (length buffer.old) }

@@ -5,6 +5,7 @@ ghost use Rattle.chain_shelf.specs.Regions.{fit, SizesWorked};
 ghost use Rattle.chain_shelf.specs.Faults.{region_fault_number};
 ghost use Rattle.chain_shelf.specs.declared.region.RegionFault.TheVariants.{Size};
 
+use common::Refusal;
 use std::error::Error;
 use std::fmt;
 
@@ -39,8 +40,7 @@ impl fmt::Display for RegionFault {
     ghost output = { λ fault. Some (refused_text (region_fault_number fault)) };
 
     fn fmt<W: fmt::Write>(&self, f: &mut fmt::Formatter<W>) -> fmt::Result {
-        let number = self.number();
-        write!(f, "refused {number}")
+        write!(f, "{}", Refusal(self.number()))
     }
 }
 

@@ -1,2 +1,3 @@
 pub mod Slots
 pub mod Shelved
+pub mod Lending

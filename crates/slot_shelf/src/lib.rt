@@ -1,10 +1,12 @@
 //! A shelf of sixteen slots, each with room for one packet.
 #![tactic(auto)]
 
-ghost use Rattle.std.specs.Prelude.{◌≡◌, ◌<◌, ◌≤◌, true, false, [], length, filter, is_some, IfSome, nat_lt};
-ghost use Rattle.shelf.specs.Store.{has, insert, remove, lookup, used, with_held, length_of, written};
+ghost use Rattle.std.specs.Prelude.{◌≡◌, ◌<◌, ◌≤◌, true, false, [], length, filter, is_some, is_none, IfSome, OnErr, nat_lt, slice_index_or};
+ghost use Rattle.std.specs.Borrow.{sem};
+ghost use Rattle.shelf.specs.Store.{has, insert, remove, lookup, used, with_held, length_of, written, put_answer, put_after, take_answer, take_buffer, take_after};
 ghost use Rattle.common.specs.Lengths.{right};
-ghost use Rattle.slot_shelf.specs.Slots.{slots_held, slots_sound, slot_store, empty_store, FreeAt, HeldAt};
+ghost use Rattle.slot_shelf.specs.declared.table.TheConstants.{SLOTS};
+ghost use Rattle.slot_shelf.specs.Slots.{slots_held, slots_sound, slot_store, empty_store, fronted, roomed, no_slot, FreeAt, HeldAt};
 ghost use Rattle.slot_shelf.specs.Shelved.{slots_lawful};
 
 use shelf::{LONGEST, PutFault, Shelf, TakeFault, is_length};
@@ -12,7 +14,7 @@ use shelf::{LONGEST, PutFault, Shelf, TakeFault, is_length};
 mod slot;
 mod table;
 
-use slot::Slot;
+use slot::{Held, Room, Slot};
 use table::{Place, SLOTS, Table};
 
 /// A shelf of sixteen slots. Each packet costs one unit, the slot that it lies in.
@@ -20,17 +22,21 @@ use table::{Place, SLOTS, Table};
 #[derive(Drop)]
 pub struct SlotShelf {
     slots: Table<Slot>,
-    ghost sixteen: { length slots.items ≡ 16 },
+    ghost sixteen: { length slots.items ≡ SLOTS },
     ghost sound: { slots_sound slots.items ≡ true },
 }
 
 impl SlotShelf {
+    ghost use Rattle.slot_shelf.specs.Lending.{LendsRoom};
+
     /// An empty shelf.
     pub fn new() -> SlotShelf
         ensures { slot_store result.slots.items ≡ empty_store }
     {
         let slot = Slot {
-            bytes: [0; LONGEST],
+            room: Room {
+                bytes: [0; LONGEST],
+            },
             held: None,
         };
         SlotShelf {
@@ -42,7 +48,7 @@ impl SlotShelf {
 
     // The first slot with no packet.
     fn free(&self) -> Option<Place>
-        ensures room { is_some result ≡ nat_lt (used (slot_store self.now.slots.items)) 16 }
+        ensures room { is_some result ≡ nat_lt (used (slot_store self.now.slots.items)) SLOTS }
         ensures found { IfSome result (FreeAt self.now.slots.items) }
     {
         let index = self
@@ -70,6 +76,38 @@ impl SlotShelf {
         slots.filter(|slot| slot.held.is_some()).count() as u32
     }
 
+    // Whether a slot has no packet.
+    fn is_free(&self, place: Place) -> bool
+        ensures { result ≡ is_none (slice_index_or self.now.slots.items place.index no_slot).held }
+    {
+        self.slots.items[place.index].held.is_none()
+    }
+
+    // Lends the bytes of a free slot, to be filled, or `None` where the slot holds a packet. What the shelf holds does not depend on what is left in them.
+    fn lend(&mut self, place: Place) -> Option<&mut Room>
+        ensures* back { sem 𝓛 (LendsRoom self.entry place result) }
+        ensures free { is_some result ≡ is_none (slice_index_or self.old.slots.items place.index no_slot).held }
+        ensures value { IfSome result (λ room. room.now ≡ (slice_index_or self.old.slots.items place.index no_slot).room) }
+    {
+        if !self.is_free(place) {
+            return None;
+        }
+        let slot = self.slots.lend(place.index);
+        Some(&mut slot.room)
+    }
+
+    // Writes a packet into a free slot, which stays free.
+    fn fill(&mut self, place: Place, packet: &[u8])
+        requires free { FreeAt self.old.slots.items place }
+        requires fits { length packet.now ≤ LONGEST }
+        ensures after { self.new.slots.items ≡ roomed self.old.slots.items place.index (fronted (slice_index_or self.old.slots.items place.index no_slot).room packet.now) }
+        ensures held { slots_held self.new.slots.items ≡ slots_held self.old.slots.items }
+    {
+        if let Some(room) = self.lend(place) {
+            room.fill(packet);
+        }
+    }
+
     // Puts a packet into a free slot.
     #[tactic(auto, using(crate::proofs::Shelved::held_filled))]
     fn keep(&mut self, place: Place, number: u32, packet: &[u8])
@@ -78,16 +116,19 @@ impl SlotShelf {
         requires sized { right (length packet.now) ≡ true }
         ensures { slots_held self.new.slots.items ≡ insert number packet.now (slots_held self.old.slots.items) }
     {
-        self.slots.fill_at(place, number, packet);
+        self.fill(place, packet);
+        let len = packet.len();
+        self.slots.mark_at(place, Held { number, len });
     }
 
     // Moves the packet of a number to the front of the buffer, and answers its length.
     #[tactic(auto, using(crate::proofs::Shelved::fits_at, crate::proofs::Shelved::lookup_at, crate::proofs::Shelved::held_emptied))]
     fn withdraw(&mut self, number: u32, buffer: &mut [u8]) -> Option<usize>
-        requires { 1500 ≤ length buffer.old }
+        requires { LONGEST ≤ length buffer.old }
         ensures answer { result ≡ length_of (lookup (slots_held self.old.slots.items) number) }
         ensures buffer { buffer.new ≡ written (lookup (slots_held self.old.slots.items) number) buffer.old }
         ensures after { slots_held self.new.slots.items ≡ remove number (slots_held self.old.slots.items) }
+        ensures absent { result ≡ None → self.new.slots.items ≡ self.old.slots.items }
     {
         let place = self.place(number)?;
         self.slots.empty_at(place, buffer)
@@ -99,7 +140,11 @@ impl Shelf for SlotShelf {
 
     ghost lawful = { λ s. slots_lawful s.slots.items s.sixteen s.sound };
 
-    fn put(&mut self, number: u32, packet: &[u8]) -> Result<(), PutFault> {
+    fn put(&mut self, number: u32, packet: &[u8]) -> Result<(), PutFault>
+        ensures answer { result ≡ put_answer (slot_store self.old.slots.items) number packet.now }
+        ensures after { slot_store self.new.slots.items ≡ put_after (slot_store self.old.slots.items) number packet.now }
+        ensures refused { OnErr result (self.new.slots.items ≡ self.old.slots.items) }
+    {
         if !is_length(packet.len()) {
             return Err(PutFault::Length);
         }
@@ -113,7 +158,13 @@ impl Shelf for SlotShelf {
         Ok(())
     }
 
-    fn take(&mut self, number: u32, buffer: &mut [u8]) -> Result<Option<usize>, TakeFault> {
+    fn take(&mut self, number: u32, buffer: &mut [u8]) -> Result<Option<usize>, TakeFault>
+        ensures answer { result ≡ take_answer (slot_store self.old.slots.items) number buffer.old }
+        ensures buffer { buffer.new ≡ take_buffer (slot_store self.old.slots.items) number buffer.old }
+        ensures after { slot_store self.new.slots.items ≡ take_after (slot_store self.old.slots.items) number buffer.old }
+        ensures refused { OnErr result (self.new.slots.items ≡ self.old.slots.items) }
+        ensures absent { result ≡ Ok None → self.new.slots.items ≡ self.old.slots.items }
+    {
         if buffer.len() < LONGEST {
             return Err(TakeFault::Short);
         }

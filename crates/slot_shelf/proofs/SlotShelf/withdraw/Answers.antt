@@ -2,7 +2,7 @@ use Rattle.std.proofs.Common.{◌≡◌, length, None, sym, refl, ap, ◌∙◌,
 use Rattle.shelf.specs.Store.{length_of, written}
 use Rattle.shelf.proofs.Kept.{lookup_none, remove_none}
 use Rattle.slot_shelf.specs.Slots.{slots_held, slots_sound}
-use Rattle.slot_shelf.proofs.Shelved.{sound_emptied}
+use Rattle.slot_shelf.proofs.Shelved.{sound_emptied, kept_some}
 use Rattle.slot_shelf.proofs.SlotShelf.withdraw.Goals as goal
 
 pub invariant_of-self : goal.invariant_of-self
@@ -24,4 +24,8 @@ returns-in_err-place c =
       answer = let n : c.from_residual.result ≡ None = search rules in n ∙ ap length_of (sym e);
       buffer = ap (λ o. written o c.args.buffer.now) (sym e);
       after = sym (remove_none h k a);
+      absent = λ _. refl;
     }
+
+pub returns-clause-absent : goal.returns-clause-absent
+returns-clause-absent c e = absurd (kept_some _ c.args.number c.in_ok-place.ensures.found (sym c.empty_at.ensures.answer ∙ e))

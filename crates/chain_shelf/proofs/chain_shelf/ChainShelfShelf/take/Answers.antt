@@ -18,4 +18,6 @@ returns-then-not-stands_behind c =
       answer = take_ok b k B None (omega arith) (sym (ap length_of n));
       buffer = take_wrote b k B B (omega arith) (sym (ap (λ o. written o B) n));
       after = take_done b d k B (omega arith) (ap held x ∙ sym (remove_none (held b) k a)) (ap length x);
+      refused = tt;
+      absent = λ _. c.seek_and_note-prev.ensures.region;
     }
