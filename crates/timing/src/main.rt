@@ -77,8 +77,10 @@ fn run(rt: &HostRuntime, name: &str, depth: u16) -> anyhow::Result<()> {
     let mut sells = vec![in alloc; Level::default(); levels]?;
     let mut rows = vec![in alloc; Row::default(); ROWS]?;
     let region = Region::try_from(vec![in alloc; 0_u8; RECORDS * RECORD]?)?;
-    let tables = Tables::check(&mut books, &mut buys, &mut sells, depth)
-        .map_err(|refused| refused.fault)?;
+    let tables = match Tables::check(&mut books, &mut buys, &mut sells, depth) {
+        Ok(tables) => tables,
+        Err(refused) => return Err(refused.fault.into()),
+    };
     let board = Twin::new(BookKeeper::new(tables), Tally::new(&mut rows));
     let mut channel = Channel::new(board, ChainShelf::new(region));
     channel.make(1, b"TIMING", 1)?;
