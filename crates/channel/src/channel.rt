@@ -1,5 +1,5 @@
 //! A channel: closed, or open with its number, its source id and the claim that is out.
-ghost use Rattle.std.specs.Prelude.{◌≡◌, ◌+◌, ◌-◌, ◌<◌, ◌≤◌};
+ghost use Rattle.std.specs.Prelude.{◌≡◌, ◌≤◌};
 ghost use Rattle.channel.specs.declared.channel.TheConstants.{MOST_CLAIMS};
 
 use crate::claim::Claim;
