@@ -29,7 +29,7 @@ was_made n false o = absurd o
 
 module _ {M : Type 0} (step : Event → M → M) where
   -- the clause, from what is followed
-  pub goes : (calls : List Call) (c d : State M) → ((before : M) (h : History) → Follows step before h c → Follows step before (calls ++ h) d)
+  goes : (calls : List Call) (c d : State M) → ((before : M) (h : History) → Follows step before h c → Follows step before (calls ++ h) d)
       → (Opens calls → Follows step c.sink calls d) → (calls ≡ [] → d ≡ c) → GoesBy step calls c d
   goes calls c d on begins none = record {
     on = λ before h f. (on before h f, promised step before (calls ++ h) d (on before h f));
@@ -51,7 +51,7 @@ module _ {M : Type 0} (step : Event → M → M) where
   opening (settle k) c o = absurd o
   opening (restart n) c o = absurd o
 
-  pub goes_one : (x : Ask) (c : State M) → GoesBy step (noted x (taken step x c) ∷ []) c (after step x c)
+  goes_one : (x : Ask) (c : State M) → GoesBy step (noted x (taken step x c) ∷ []) c (after step x c)
   goes_one x c = goes (noted x (taken step x c) ∷ []) c (after step x c) (λ before h f. calls_follow step before h c x f) (opening x c) (λ e. cc)
 
   -- some calls after others
