@@ -9,7 +9,7 @@ use Rattle.chain_shelf.proofs.Fills.{cnt_first}
 use Rattle.chain_shelf.proofs.Frames.{heads_tally, pack_length}
 use Rattle.chain_shelf.proofs.Segs.{first, seg_from, seg_first, below_from, below_last, Below}
 use Rattle.chain_shelf.proofs.Places.{place, at_first, has_place, lookup_place, rest}
-use Rattle.chain_shelf.proofs.Puts.{halves}
+use Rattle.chain_shelf.proofs.Sides.{halves}
 use Rattle.chain_shelf.specs.Sounds.{opened}
 use Rattle.chain_shelf.proofs.Trails.{under_more}
 

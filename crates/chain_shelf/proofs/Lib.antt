@@ -5,6 +5,7 @@ mod Counts
 mod Frames
 mod Segs
 mod Places
+mod Sides
 mod Sounds
 mod Puts
 mod Takes

@@ -1,45 +1,18 @@
 -- A packet that is laid in.
-use Rattle.std.proofs.Common.{◌≡◌, ℕ, zero, suc, ◌+◌, ◌-◌, ◌/◌, ◌^◌, ◌<◌, ◌≤◌, false, List, [], ◌∷◌, ◌++◌, length, sym, refl, ap, ◌∙◌, subst, ⊎_elim, arith}
+use Rattle.std.proofs.Common.{◌≡◌, ℕ, ◌+◌, ◌-◌, ◌/◌, ◌^◌, ◌<◌, ◌≤◌, ◌⊎◌, false, List, [], ◌∷◌, ◌++◌, length, sym, ap, ◌∙◌, subst, ⊎_elim, arith}
 use Rattle.std.proofs.lemmas.Bool.{cases_eq}
-use Rattle.chain_shelf.specs.Records.{Mem, mem, records, link, next, size, tail, span, walk, gather, hit, cnt, heads, Apart, Inside, under, last}
+use Rattle.chain_shelf.specs.Records.{Mem, mem, records, link, next, size, tail, span, walk, gather, cnt, heads, Apart, Inside, under, last}
 use Rattle.shelf.specs.Store.{units, Up, Sized, has, insert}
 use Rattle.chain_shelf.specs.Chain.{pack, layout, packets, tally, loose, packs, held, spent, free, Seg, Sound, Before, LaidIn}
 use Rattle.chain_shelf.proofs.Fills.{hit_not, cnt_first}
 use Rattle.chain_shelf.proofs.Counts.{cnt_append, tally_append, layout_append, packets_append, ahead, ahead_last, walk_split, walk_keep, walk_turn, last_in, last_link, loose_append, loose_keep}
-use Rattle.chain_shelf.proofs.Frames.{layout_same, heads_tally}
+use Rattle.chain_shelf.proofs.Frames.{heads_tally}
 use Rattle.chain_shelf.proofs.Segs.{seg_in, seg_from, seg_end, last_append}
 use Rattle.shelf.proofs.Kept.{up_insert, sized_insert, units_insert}
 use Rattle.chain_shelf.proofs.Places.{place, insert_place, rest, under_rest, under_over, under_same}
+use Rattle.chain_shelf.proofs.Sides.{halves, loose_halves, last_of, none_at, heads_apart, before_same, behind_same}
 use Rattle.chain_shelf.proofs.Sounds.{sound_of}
 use Rattle.chain_shelf.proofs.Trails.{under_none}
-
-packs_split : (b : List ℕ) (k : ℕ) → packs b ≡ layout (mem b) (under (mem b) k (heads b)) ++ layout (mem b) (rest (mem b) k (heads b))
-packs_split b k = sym (ap (layout (mem b)) (place (mem b) k (heads b))) ∙ layout_append (mem b) (under (mem b) k (heads b)) (rest (mem b) k (heads b))
-
-pub halves : (b : List ℕ) (k q : ℕ) → tally q (packs b) ≡ tally q (layout (mem b) (under (mem b) k (heads b))) + tally q (layout (mem b) (rest (mem b) k (heads b)))
-halves b k q = ap (tally q) (packs_split b k) ∙ tally_append q (layout (mem b) (under (mem b) k (heads b))) (layout (mem b) (rest (mem b) k (heads b)))
-
-pub loose_halves : (b : List ℕ) (k : ℕ) → loose (mem b) (packs b) ≡ loose (mem b) (layout (mem b) (under (mem b) k (heads b))) + loose (mem b) (layout (mem b) (rest (mem b) k (heads b)))
-loose_halves b k = ap (loose (mem b)) (packs_split b k) ∙ loose_append (mem b) (layout (mem b) (under (mem b) k (heads b))) (layout (mem b) (rest (mem b) k (heads b)))
-
--- the record before a place is 0 or one of the first records before it
-pub last_of : (t : ℕ) (A : List ℕ) → t ≡ last 0 A → (t ≡ 0 → ⊥) → 0 < cnt t A
-last_of t A e n =
-    let l = last_in 0 A in
-    let y = ap (λ x. cnt x (0 ∷ A)) e in
-    let z = hit_not t 0 n in
-    omega arith
-
--- record 0 is in no chain
-pub none_at : (c q R : ℕ) → (0 < c → (0 < q) × (q < R)) → q ≡ 0 → c ≡ 0
-none_at zero q R i e = refl
-none_at (suc c) q R i e = absurd (let j = (i (omega arith)).0 in omega arith)
-
-pub heads_apart : (b : List ℕ) → Sound b → Apart (0 ∷ heads b)
-heads_apart b s q =
-    let t = heads_tally (mem b) (heads b) q in
-    let o = s.once q in
-    ⊎_elim (λ (e : q ≡ 0). let z = none_at (tally q (packs b) + cnt q (free b)) q (records b) (s.inside q) e in let y = ap (λ x. hit x 0) e in omega arith) (λ (e : q ≡ 0 → ⊥). let z = hit_not q 0 e in omega arith) (cases_eq q 0)
 
 module _ (b d : List ℕ) (k : ℕ) (xs : List ℕ) (s : Sound b) (len : length d ≡ length b) (lo : 16 ≤ length xs) (hi : length xs ≤ 1500) (absent : has (held b) k ≡ false) (wide : k < 2 ^ 32)
     (fits : spent b + span 10 (length xs) ≤ records b - 1)
@@ -86,15 +59,14 @@ module _ (b d : List ℕ) (k : ℕ) (xs : List ℕ) (s : Sound b) (len : length 
   inside : (q : ℕ) → 0 < sum q → (0 < q) × (q < records b)
   inside q l = s.inside q (omega (arith, sum_is q))
 
+  others : (t q : ℕ) → q < 64 → 0 < t → cnt t X ≡ 0 → (t ≡ last 0 A → (q < 2) ⊎ (4 ≤ q)) → w t q ≡ m t q
+  others t q l i x y = li.others t q l x (λ e. absurd (omega arith)) y
+
   a_same : layout w A ≡ layout m A
-  a_same = layout_same m w A (λ t. let o = once t in omega arith)
-      (λ t q l x y. let o = once t in let i = (inside t (omega arith)).0 in
-      li.others t q l (omega arith) (λ e. absurd (omega arith)) (λ e. y (last_of t A e (λ z. omega arith))))
+  a_same = before_same m w (records b) A B X Y once inside others
 
   b_same : layout w B ≡ layout m B
-  b_same = layout_same m w B (λ t. let o = once t in omega arith)
-      (λ t q l x y. let o = once t in let i = (inside t (omega arith)).0 in
-      li.others t q l (omega arith) (λ e. absurd (omega arith)) (λ e. absurd (let u = last_of t A e (λ z. omega arith) in let v = heads_tally m A t in omega arith)))
+  b_same = behind_same m w (records b) A B X Y once inside others
 
   stop_in : 0 < cnt (last 0 X) X
   stop_in = last_in r (walk (link m) ((length xs - 54 + 61) / 62) (link m r))

@@ -1,14 +1,14 @@
 -- A packet that is taken out.
-use Rattle.std.proofs.Common.{◌≡◌, ℕ, ◌+◌, ◌-◌, ◌/◌, ◌<◌, ◌≤◌, List, [], ◌∷◌, ◌++◌, length, sym, ap, ◌∙◌, subst, inl, arith}
+use Rattle.std.proofs.Common.{◌≡◌, ℕ, ◌+◌, ◌-◌, ◌/◌, ◌<◌, ◌≤◌, ◌⊎◌, List, [], ◌∷◌, ◌++◌, length, sym, ap, ◌∙◌, subst, inl, arith}
 use Rattle.chain_shelf.specs.Records.{Mem, mem, records, link, next, number, size, tail, span, walk, cnt, heads, Apart, under, last}
 use Rattle.shelf.specs.Store.{units, Up, Sized, remove}
 use Rattle.chain_shelf.specs.Chain.{pack, layout, packets, tally, loose, packs, held, spent, free, Seg, Sound, Before, TakenOut}
 use Rattle.chain_shelf.proofs.Counts.{cnt_append, tally_append, layout_append, packets_append, ahead_last, walk_split, walk_keep, walk_turn, last_in, last_link, loose_append, loose_keep}
-use Rattle.chain_shelf.proofs.Frames.{layout_same, heads_tally, link_same, pack_length}
+use Rattle.chain_shelf.proofs.Frames.{link_same, pack_length}
 use Rattle.chain_shelf.proofs.Segs.{seg_out, seg_from, seg_end, last_append}
 use Rattle.shelf.proofs.Kept.{up_remove, sized_remove, units_remove}
 use Rattle.chain_shelf.proofs.Places.{place, remove_place, lookup_place, rest, under_rest, under_over, under_same, under_behind}
-use Rattle.chain_shelf.proofs.Puts.{halves, loose_halves, last_of, heads_apart}
+use Rattle.chain_shelf.proofs.Sides.{halves, loose_halves, heads_apart, before_same, behind_same}
 use Rattle.chain_shelf.proofs.Sounds.{sound_of}
 
 module _ (b d : List ℕ) (k h : ℕ) (B : List ℕ) (s : Sound b) (len : length d ≡ length b) (is : rest (mem b) k (heads b) ≡ h ∷ B) (num : number (mem b) h ≡ k)
@@ -16,17 +16,17 @@ module _ (b d : List ℕ) (k h : ℕ) (B : List ℕ) (s : Sound b) (len : length
   abbrev m : Mem
   m = mem b
 
-  abbrev w : Mem
-  w = mem d
-
-  abbrev A : List ℕ
-  A = under m k (heads b)
-
   abbrev n : ℕ
   n = span 10 (size m h)
 
   abbrev X : List ℕ
   X = walk (link m) n h
+
+  abbrev w : Mem
+  w = mem d
+
+  abbrev A : List ℕ
+  A = under m k (heads b)
 
   abbrev l : ℕ
   l = last h X
@@ -55,15 +55,14 @@ module _ (b d : List ℕ) (k h : ℕ) (B : List ℕ) (s : Sound b) (len : length
   not_l : (t : ℕ) → cnt t X ≡ 0 → t ≡ l → ⊥
   not_l t x e = let y = l_in in let z = ap (λ u. cnt u X) e in omega arith
 
+  others : (t q : ℕ) → q < 64 → 0 < t → cnt t X ≡ 0 → (t ≡ last 0 A → (q < 2) ⊎ (4 ≤ q)) → w t q ≡ m t q
+  others t q j i x y = to.others t q j (λ e. absurd (omega arith)) (λ e. absurd (not_l t x e)) y
+
   a_same : layout w A ≡ layout m A
-  a_same = layout_same m w A (λ t. let o = once t in omega arith)
-      (λ t q i x y. let o = once t in let j = (inside t (omega arith)).0 in
-      to.others t q i (λ e. absurd (omega arith)) (λ e. absurd (not_l t (omega arith) e)) (λ e. y (last_of t A e (λ z. omega arith))))
+  a_same = before_same m w (records b) A B X Y once inside others
 
   b_same : layout w B ≡ layout m B
-  b_same = layout_same m w B (λ t. let o = once t in omega arith)
-      (λ t q i x y. let o = once t in let j = (inside t (omega arith)).0 in
-      to.others t q i (λ e. absurd (omega arith)) (λ e. absurd (not_l t (omega arith) e)) (λ e. absurd (let u = last_of t A e (λ z. omega arith) in let v = heads_tally m A t in omega arith)))
+  b_same = behind_same m w (records b) A B X Y once inside others
 
   laid : layout w (A ++ B) ≡ layout m A ++ layout m B
   laid = layout_append w A B ∙ (λ i. a_same i ++ b_same i)

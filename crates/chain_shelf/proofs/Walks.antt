@@ -4,7 +4,7 @@ use Rattle.chain_shelf.specs.Records.{Mem, mem, records, next, trail, heads, und
 use Rattle.chain_shelf.specs.Chain.{Seg, Sound, Whole, Before}
 use Rattle.chain_shelf.proofs.Segs.{Below, below_from, seg_trail, heads_units, last_append}
 use Rattle.chain_shelf.proofs.Frames.{heads_tally}
-use Rattle.chain_shelf.proofs.Puts.{halves}
+use Rattle.chain_shelf.proofs.Sides.{halves}
 use Rattle.chain_shelf.proofs.Places.{place, rest, under_on}
 use Rattle.chain_shelf.proofs.Finds.{seg_rest}
 use Rattle.chain_shelf.proofs.Trails.{trail_more, under_none}

@@ -1,8 +1,8 @@
 //! A shelf and the model of it, given the same random calls.
-use crate::model::Model;
+use crate::model::{LONGEST, Model, SHORTEST};
 use anyhow::ensure;
 use random::Random;
-use shelf::{LONGEST, PutFault, SHORTEST, Shelf, TakeFault};
+use shelf::{PutFault, Shelf, TakeFault};
 use std::alloc::{AllocError, Global};
 use std::collections::BTreeSet;
 

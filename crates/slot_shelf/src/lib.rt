@@ -31,7 +31,8 @@ impl SlotShelf {
 
     /// An empty shelf.
     pub fn new() -> SlotShelf
-        ensures { slot_store result.slots.items ≡ empty_store }
+        ensures empty { slot_store result.slots.items ≡ empty_store }
+        ensures units { (slot_store result.slots.items).total ≡ 16 }
     {
         let slot = Slot {
             room: Room {

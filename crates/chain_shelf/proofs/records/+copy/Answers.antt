@@ -1,6 +1,7 @@
-use Rattle.std.proofs.Common.{◌≡◌, ℕ, ◌+◌, ◌-◌, ◌*◌, ◌/◌, ◌<◌, ◌≤◌, List, ◌++◌, length, take, drop, sym, ap, ◌∙◌, subst, arith, length-append, rules}
+use Rattle.std.proofs.Common.{◌≡◌, ℕ, ◌+◌, ◌-◌, ◌*◌, ◌/◌, ◌<◌, ◌≤◌, List, ◌∷◌, ◌++◌, length, take, drop, sym, ap, ◌∙◌, subst, arith, length-append, rules}
 use Rattle.std.proofs.lemmas.List.{take_rest, length-drop}
-use Rattle.chain_shelf.specs.Records.{mem, records, cut, link, span, walk, Inside, last}
+use borrow.Rule.Slice.PartMut.{put_mid}
+use Rattle.chain_shelf.specs.Records.{mem, records, cut, link, span, walk, gather, Inside, last}
 use Rattle.chain_shelf.proofs.Cuts.{cut_is, cut_length}
 use Rattle.chain_shelf.proofs.Fills.{span_one, gather_one, walk_next, gather_next, behind, inside_rest, cnt_first}
 use Rattle.chain_shelf.proofs.records.+copy.Goals as goal
@@ -22,49 +23,52 @@ returns-then-buffer-room t c =
       last = sym (ap (λ f. last r (walk (link (mem b)) f r)) (span_one o n (omega arith)));
     }
 
--- the first part of the buffer, and how long the rest is
-first : (b x : List ℕ) (q r o : ℕ) → q ≡ r → 2 ≤ o → o < 64 → r < records b → x ≡ take ((64 * q + o + (64 - o)) - (64 * q + o)) (drop (64 * q + o) b) → x ≡ cut (mem b) r o (64 - o)
-first b x q r o f lo hi a h = drawn b x q r o (64 - o) ((64 * q + o + (64 - o)) - (64 * q + o)) f (omega arith) (omega arith) a h
+-- the first part X of the buffer B is written out of one record, and a is the next one
+module _ (b B X : List ℕ) (q r o a : ℕ) (same : q ≡ r) (lo : 2 ≤ o) (hi : o < 64) (at : r < records b) (more : 64 - o < length B) (next : a ≡ link (mem b) r)
+    (from : X ≡ take ((64 * q + o + (64 - o)) - (64 * q + o)) (drop (64 * q + o) b)) where
+  -- the buffer then, and its rest
+  abbrev Y : List ℕ
+  Y = X ++ drop (64 - o) B
 
-left : (x B : List ℕ) (k : ℕ) → length x ≡ k → k < length B → length (take (length (x ++ drop k B) - k) (drop k (x ++ drop k B))) ≡ length B - k
-left x B k e l =
-    let Y = x ++ drop k B in
-    let y : length Y ≡ length B = simp (length-append, length-drop) (omega arith) in
-    ap length (take_rest Y k) ∙ length-drop k Y ∙ ap (λ t. t - k) y
+  abbrev P : List ℕ
+  P = take (length Y - (64 - o)) (drop (64 - o) Y)
+
+  part : X ≡ cut (mem b) r o (64 - o)
+  part = drawn b X q r o (64 - o) ((64 * q + o + (64 - o)) - (64 * q + o)) same (omega arith) (omega arith) at from
+
+  part_length : length X ≡ 64 - o
+  part_length = ap length part ∙ cut_length (mem b) r o (64 - o)
+
+  left : length P ≡ length B - (64 - o)
+  left =
+      let y : length Y ≡ length B = let x = part_length in simp (length-append, length-drop) (omega arith) in
+      ap length (take_rest Y (64 - o)) ∙ length-drop (64 - o) Y ∙ ap (λ t. t - (64 - o)) y
+
+  chain : walk (link (mem b)) (span o (length B)) r ≡ r ∷ walk (link (mem b)) (span 2 (length P)) a
+  chain = walk_next (mem b) r o (length B) (length P) a lo hi more left next
+
+  pub goes_on : Inside (records b) (walk (link (mem b)) (span o (length B)) r) → (length P ≡ length B - (64 - o)) × (a < records b) × Inside (records b) (walk (link (mem b)) (span 2 (length P)) a)
+  goes_on h =
+      let i = inside_rest (records b) r (walk (link (mem b)) (span 2 (length P)) a) (subst (Inside (records b)) chain h) in
+      (left, (i a (cnt_first a (walk (link (mem b)) ((length P - 62 + 61) / 62) (link (mem b) a)))).1, i)
+
+  pub ends : (Z : List ℕ) (l : ℕ) → Z ≡ gather (mem b) (span 2 (length P)) a 2 (length P) → l ≡ last a (walk (link (mem b)) (span 2 (length P)) a)
+      → (put_mid (64 - o) (length Y - (64 - o)) Y Z ≡ gather (mem b) (span o (length B)) r o (length B)) × (l ≡ last r (walk (link (mem b)) (span o (length B)) r))
+  ends Z l e f = (
+    behind X (drop (64 - o) B) Z (64 - o) part_length ∙ ap (λ t. t ++ Z) part ∙ ap (λ t. cut (mem b) r o (64 - o) ++ t) e
+        ∙ sym (gather_next (mem b) r o (length B) (length P) a lo hi more left next),
+    f ∙ sym (ap (last r) chain),
+  )
 
 pub copy-requires : goal.copy-requires
 copy-requires t c =
-    let b = c.args.bytes.now in
-    let B = c.args.buffer.now in
-    let o = c.args.offset in
-    let r = c.args.index in
-    let a = c.read-after.result in
-    let X = c.copy_from_slice-2.new.self in
-    let Y = X ++ drop (64 - o) B in
-    let P = take (length Y - (64 - o)) (drop (64 - o) Y) in
-    let e : X ≡ cut (mem b) r o (64 - o) = first b X c.from.result r o c.from.ensures c.requires.low c.requires.high c.requires.at c.copy_from_slice-2.ensures.after in
-    let n : length P ≡ length B - (64 - o) = left X B (64 - o) (ap length e ∙ cut_length (mem b) r o (64 - o)) (omega arith) in
-    let w = walk_next (mem b) r o (length B) (length P) a (omega arith) (omega arith) (omega arith) n c.read-after.ensures in
-    let i = inside_rest (records b) r (walk (link (mem b)) (span 2 (length P)) a) (subst (Inside (records b)) w c.requires.inside) in
-    let x = i a (cnt_first a (walk (link (mem b)) ((length P - 62 + 61) / 62) (link (mem b) a))) in
-    (search rules, (omega arith, (omega arith, (x.1, i))))
+    let i = goes_on c.args.bytes.now c.args.buffer.now c.copy_from_slice-2.new.self c.from.result c.args.index c.args.offset c.read-after.result
+    c.from.ensures c.requires.low c.requires.high c.requires.at (omega arith) c.read-after.ensures c.copy_from_slice-2.ensures.after c.requires.inside in
+    let n = i.0 in
+    (search rules, (omega arith, (omega arith, (i.1, i.2))))
 
 pub returns : goal.returns
 returns t c =
-    let b = c.args.bytes.now in
-    let B = c.args.buffer.now in
-    let o = c.args.offset in
-    let r = c.args.index in
-    let a = c.read-after.result in
-    let X = c.copy_from_slice-2.new.self in
-    let Y = X ++ drop (64 - o) B in
-    let P = take (length Y - (64 - o)) (drop (64 - o) Y) in
-    let e : X ≡ cut (mem b) r o (64 - o) = first b X c.from.result r o c.from.ensures c.requires.low c.requires.high c.requires.at c.copy_from_slice-2.ensures.after in
-    let k : length X ≡ 64 - o = ap length e ∙ cut_length (mem b) r o (64 - o) in
-    let n : length P ≡ length B - (64 - o) = left X B (64 - o) k (omega arith) in
-    let w = walk_next (mem b) r o (length B) (length P) a (omega arith) (omega arith) (omega arith) n c.read-after.ensures in
-    record {
-      laid = behind X (drop (64 - o) B) c.copy.new.buffer (64 - o) k ∙ ap (λ t. t ++ c.copy.new.buffer) e ∙ ap (λ t. cut (mem b) r o (64 - o) ++ t) c.copy.ensures.laid
-          ∙ sym (gather_next (mem b) r o (length B) (length P) a (omega arith) (omega arith) (omega arith) n c.read-after.ensures);
-      last = c.copy.ensures.last ∙ sym (ap (last r) w);
-    }
+    let e = ends c.args.bytes.now c.args.buffer.now c.copy_from_slice-2.new.self c.from.result c.args.index c.args.offset c.read-after.result
+    c.from.ensures c.requires.low c.requires.high c.requires.at (omega arith) c.read-after.ensures c.copy_from_slice-2.ensures.after c.copy.new.buffer c.copy.result c.copy.ensures.laid c.copy.ensures.last in
+    record { laid = e.0; last = e.1 }
