@@ -1,6 +1,6 @@
 -- What the bytes of a region hold, when they are sound, and what a put and a take change.
 use Rattle.std.specs.Prelude.{◌≡◌, ℕ, ◌+◌, ◌-◌, ◌*◌, ◌/◌, ◌<◌, ◌≤◌, cond, ◌⊎◌, List, [], ◌∷◌, length, ◌==◌, ◌≢◌}
-use Rattle.chain_shelf.specs.declared.region.TheConstants.{RECORD, FEWEST, MOST}
+use Rattle.chain_shelf.specs.declared.region.TheConstants.{RECORD, FEWEST_RECORDS, MOST_RECORDS}
 use Rattle.chain_shelf.specs.declared.records.TheConstants.{LINK, NEXT, BODY}
 use Rattle.chain_shelf.specs.declared.packets.TheConstants.{FIRST_ROOM, ROOM}
 use Rattle.chain_shelf.specs.Records.{Mem, mem, records, link, next, number, size, tail, in_use, span, walk, gather, cnt, heads, under, last}
@@ -69,9 +69,9 @@ pub record Sound (b : List ℕ) : Type 0 where
   pub rising : Up 0 (held b)
   pub sized : Sized (held b)
 
--- FEWEST to MOST whole records
+-- 26 to 65,535 whole records
 abbrev pub Whole : List ℕ → Type 0
-Whole b = (length b ≡ RECORD * records b) × (FEWEST ≤ records b) × (records b ≤ MOST)
+Whole b = (length b ≡ RECORD * records b) × (FEWEST_RECORDS ≤ records b) × (records b ≤ MOST_RECORDS)
 
 -- what a shelf keeps of its region
 abbrev pub Kept : List ℕ → Type 0

@@ -22,4 +22,4 @@ mod region;
 
 pub use chain_shelf::ChainShelf;
 pub use packets::price_of;
-pub use region::{Region, RegionFault, region_sizes};
+pub use region::{MOST_RECORDS, RECORD, Region, RegionFault, region_sizes};

@@ -10,13 +10,13 @@ use std::error::Error;
 use std::fmt;
 
 /// The bytes of a record.
-pub(crate) const RECORD: usize = 64;
+pub const RECORD: usize = 64;
 
 /// The fewest records of a region: those of the longest packet, and record 0.
-const FEWEST: usize = 26;
+const FEWEST_RECORDS: usize = 26;
 
 /// The most records of a region.
-const MOST: usize = 65535;
+pub const MOST_RECORDS: usize = 65535;
 
 /// Why memory was not taken as a region; it is given back.
 #[derive(Debug, Drop)]
@@ -61,7 +61,7 @@ impl TryFrom<Vec<u8>> for Region {
 
     fn try_from(bytes: Vec<u8>) -> Result<Region, RegionFault> {
         let size = bytes.len();
-        if !size.is_multiple_of(RECORD) || !(FEWEST..=MOST).contains(&(size / RECORD)) {
+        if !size.is_multiple_of(RECORD) || !(FEWEST_RECORDS..=MOST_RECORDS).contains(&(size / RECORD)) {
             return Err(RegionFault::Size(bytes));
         }
         Ok(Region { bytes })

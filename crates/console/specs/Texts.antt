@@ -55,8 +55,8 @@ heading_of (reset next) q = codes "reset number=" ++ (decimal q.number ++ (codes
 heading_of (unavailable b e) q =
     codes "unavailable number=" ++ (decimal q.number ++ (codes " begin=" ++ (decimal b ++ (codes " end=" ++ decimal e))))
 heading_of mapping q = codes "mapping number=" ++ decimal q.number
-heading_of (full index scale ps) q = update_text (codes "full") q index scale (length ps / 12)
-heading_of (delta index scale ps) q = update_text (codes "delta") q index scale (length ps / 28)
+heading_of (full index scale ps) q = update_text (codes "full") q index scale (length (points_in_full ps))
+heading_of (delta index scale ps) q = update_text (codes "delta") q index scale (length (points_in_delta ps))
 
 abbrev pub heading : Pkt → List ℕ
 heading q = heading_of q.message q

@@ -1,5 +1,6 @@
 //! The texts of prices, levels and packets.
-ghost use Rattle.std.specs.Prelude.{◌≡◌, ◌/◌, length, ◌++◌, Some, codes};
+ghost use Rattle.std.specs.Prelude.{◌≡◌, length, ◌++◌, Some, codes};
+ghost use Rattle.wire.specs.Points.{points as points_in};
 ghost use Rattle.wire.specs.Reading.{packet_model};
 ghost use Rattle.console.specs.Texts.{price_text, priced_level_text, update_text, heading};
 
@@ -78,7 +79,7 @@ fn update_of<'a, 'b, P: Point>(
     scale: u8,
     points: &[u8],
 ) -> Update<'a, 'b>
-    ensures { result ≡ record { kind = kind.entry; packet = packet.entry; index = index; scale = scale; points = length points.now / P.BYTES } }
+    ensures { result ≡ record { kind = kind.entry; packet = packet.entry; index = index; scale = scale; points = length (points_in P.BYTES P.at points.now) } }
 {
     Update {
         kind,

@@ -3,7 +3,7 @@
 use crate::log::create;
 use crate::options::{Options, Service};
 use crate::sinks::Board;
-use books::BookKeeper;
+use books::{BookKeeper, MOST_BOOKS};
 use reports::{
     BooksPart, Counts, DAY_BOOK_HEADER, DayBook, Executed, ExecutedPart, GapsPart, PacketsPart,
     RefusalsPart, TALLY_HEADER,
@@ -42,7 +42,7 @@ pub fn print_files(rt: &HostRuntime, options: &Options<'_>) -> anyhow::Result<()
 
 // How many books a day has.
 fn book_count(options: &Options<'_>) -> u16 {
-    options.setup.books.min(1024) as u16
+    (options.setup.books as usize).min(MOST_BOOKS) as u16
 }
 
 fn write_day_book(

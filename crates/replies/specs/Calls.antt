@@ -1,6 +1,7 @@
 -- The text of the answers to a channel's calls, each line ended.
 use Rattle.std.specs.Prelude.{ℕ, List, ◌++◌, take, Ok, Err, codes, decimal, Option}
 use Rattle.std.specs.Option.{unwrap_or}
+use Rattle.wire.specs.declared.request.TheConstants.{REQUEST}
 use Rattle.handover.specs.declared.handover.Taken.{Taken}
 use Rattle.handover.specs.Faults.{call_fault_text, offer_fault_text}
 use Rattle.operator.specs.declared.action.Asked.{Asked}
@@ -33,7 +34,7 @@ reply_text (Made (Ok u)) last buffer = made_text (unwrap_or last 0)
 reply_text (Made (Err f)) last buffer = call_fault_text f ++ codes "\n"
 reply_text (Offered (Ok t)) last buffer = taken_text t
 reply_text (Offered (Err f)) last buffer = offer_fault_text f ++ codes "\n"
-reply_text (Claimed (Ok a)) last buffer = claimed_text a (take 44 buffer)
+reply_text (Claimed (Ok a)) last buffer = claimed_text a (take REQUEST buffer)
 reply_text (Claimed (Err f)) last buffer = call_fault_text f ++ codes "\n"
 reply_text (Settled n) last buffer = settled_text n
 reply_text (Restarted (Ok u)) last buffer = restarted_text (unwrap_or last 0)

@@ -9,9 +9,9 @@ use tally::Counters;
 use wire::REQUEST;
 
 // The request, in front of a buffer.
-// Kept as a test of the length: cut at the lesser of 44 and the length, a wrong length fails in the proof file and not at the clause; and what `get(..44)` says where it gets nothing tells no proof that fewer are left.
+// Kept as a test of the length: cut at the lesser of its bytes and the length, a wrong length fails in the proof file and not at the clause; and what `get(..REQUEST)` says where it gets nothing tells no proof that fewer are left.
 fn request_in(buffer: &[u8]) -> &[u8]
-    ensures { result.now ≡ take 44 buffer.now }
+    ensures { result.now ≡ take REQUEST buffer.now }
 {
     if buffer.len() < REQUEST {
         buffer

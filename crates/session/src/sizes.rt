@@ -4,7 +4,8 @@ ghost use Rattle.any_shelf.specs.Either.{any_store};
 ghost use Rattle.session.specs.Sizes.{region_bytes, shelf_fits, shelf_store, sizes_of};
 
 use any_shelf::AnyShelf;
-use chain_shelf::RegionFault;
+use books::{MOST_BOOKS, MOST_DEPTH};
+use chain_shelf::{MOST_RECORDS, RECORD, RegionFault};
 use script::{Setup, ShelfKind};
 use std::alloc::{AllocError, Global};
 
@@ -21,7 +22,7 @@ pub struct Sizes {
 fn region_bytes(records: u32) -> usize
     ensures { result ≡ region_bytes records }
 {
-    records.min(65_536) as usize * 64
+    (records as usize).min(MOST_RECORDS + 1) * RECORD
 }
 
 /// The shelf of a setup, or the refusal of a region that is too small or too large.
@@ -47,9 +48,9 @@ pub fn open_shelf(
 pub fn table_sizes(setup: Setup) -> Sizes
     ensures { result ≡ sizes_of setup }
 {
-    if setup.books <= 1024 && setup.depth <= 4096 {
-        let books = setup.books as usize;
-        let depth = setup.depth as usize;
+    let books = setup.books as usize;
+    let depth = setup.depth as usize;
+    if books <= MOST_BOOKS && depth <= MOST_DEPTH {
         Sizes {
             books,
             levels: books * depth,

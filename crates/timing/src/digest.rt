@@ -1,5 +1,5 @@
 //! Digests of books and of a tally, to hold two programs' results against each other.
-use books::{BookKeeper, Level};
+use books::{Level, Tables};
 use tally::Tally;
 use wire::Side;
 
@@ -29,13 +29,13 @@ impl Digest {
 }
 
 /// Of each book: whether it is whole, and the levels of buys and sells with their count in front.
-pub fn of_books(keeper: &BookKeeper<'_, '_, '_>, count: u16) -> u64 {
+pub fn of_books(tables: &Tables<'_, '_, '_>, count: u16) -> u64 {
     let mut digest = Digest(BASIS);
     for index in 1..=count {
-        if let Some(book) = keeper.book(index) {
+        if let Some(book) = tables.book(index) {
             digest.add(&[u8::from(book.whole)]);
-            digest.add_side(book.buys, keeper.levels(index, Side::Buy));
-            digest.add_side(book.sells, keeper.levels(index, Side::Sell));
+            digest.add_side(book.buys, tables.levels(index, Side::Buy));
+            digest.add_side(book.sells, tables.levels(index, Side::Sell));
         }
     }
     digest.0

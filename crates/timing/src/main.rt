@@ -6,7 +6,7 @@ mod digest;
 use anyhow::anyhow;
 use books::{BookKeeper, BookRow, Level, Tables};
 use capture::{FILE_HEADER, Format};
-use chain_shelf::{ChainShelf, Region};
+use chain_shelf::{ChainShelf, MOST_RECORDS, RECORD, Region};
 use channel::{Channel, ChannelFault, OfferFault};
 use digest::{of_books, of_tally};
 use shelf::{LONGEST, Shelf};
@@ -22,10 +22,6 @@ const HELP: &str = "usage: timing FILE DEPTH\n";
 const BOOKS: u16 = 1_024;
 
 const ROWS: usize = 1_024;
-
-const RECORDS: usize = 65_535;
-
-const RECORD: usize = 64;
 
 // The payloads of a capture's datagrams.
 fn payloads(alloc: Global, file: &[u8]) -> anyhow::Result<Vec<&[u8]>> {
@@ -76,7 +72,7 @@ fn run(rt: &HostRuntime, name: &str, depth: u16) -> anyhow::Result<()> {
     let mut buys = vec![in alloc; Level::default(); levels]?;
     let mut sells = vec![in alloc; Level::default(); levels]?;
     let mut rows = vec![in alloc; Row::default(); ROWS]?;
-    let region = Region::try_from(vec![in alloc; 0_u8; RECORDS * RECORD]?)?;
+    let region = Region::try_from(vec![in alloc; 0_u8; MOST_RECORDS * RECORD]?)?;
     let tables = match Tables::check(&mut books, &mut buys, &mut sells, depth) {
         Ok(tables) => tables,
         Err(refused) => return Err(refused.fault.into()),
@@ -87,17 +83,20 @@ fn run(rt: &HostRuntime, name: &str, depth: u16) -> anyhow::Result<()> {
     let start = Instant::now(rt)?;
     let refused = offer_all(&mut channel, &packets)?;
     let time = start.elapsed(rt)?;
-    let sink = channel.sink();
+    let last = channel.last().unwrap_or(0);
+    let (board, shelf) = channel.into_parts();
+    let (keeper, tally) = board.into_parts();
+    let tables = keeper.into_tables();
     let bytes = usize::from(BOOKS) * size_of::<BookRow>()
         + 2 * levels * size_of::<Level>()
         + ROWS * size_of::<Row>()
-        + RECORDS * RECORD;
+        + Vec::from(shelf).len();
     println!(rt;
         "last={} losses={} books={:016x} tally={:016x} ns={} packets={} refused={refused} bytes={bytes}",
-        channel.last().unwrap_or(0),
-        sink.second().counters().losses,
-        of_books(sink.first(), BOOKS),
-        of_tally(sink.second()),
+        last,
+        tally.counters().losses,
+        of_books(&tables, BOOKS),
+        of_tally(&tally),
         time.as_nanos(),
         packets.len(),
     )?;
