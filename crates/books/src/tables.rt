@@ -12,7 +12,7 @@ use wire::Side;
 /// The most books of a keeper.
 pub const MOST_BOOKS: usize = 1024;
 
-/// The most levels a side of a book.
+/// The most levels of a side of a book.
 pub const MOST_DEPTH: usize = 4096;
 
 /// Tables whose sizes are checked: N books, and N times D levels of each side.
