@@ -13,16 +13,12 @@ use Rattle.book_model.specs.declared.start.Start.TheVariants as start
 use Rattle.book_model.specs.Levels.{price_of, before, changed}
 use Rattle.book_model.specs.Entering.{Known, unknown, emptied, touched_at, levels, put, put_all, limited, filled, begun, taken, told, full_points, delta_points}
 use Rattle.book_model.specs.Keepers.{Kept, keeper_step, heard, book_of}
-use Rattle.book_model.specs.Laws.{Ordered, Laddered, InOrder, PointsFit, AfterPoints, Keeping}
+use Rattle.book_model.specs.Laws.{Ordered, BothLaddered, InOrder, PointsFit, AfterPoints, Keeping}
 use Rattle.book_model.proofs.Sides.{whole_with, touched_with, changed_sorted, none_sorted, begun_sorted}
 use Rattle.book_model.proofs.Books.{all_none, one_of, all_changed}
 use Rattle.book_model.proofs.Prices.{all_after}
 
--- both sides of a book are in order
-abbrev Both : ℕ → Known → Type 0
-Both d b = (s : Side) → Laddered d b s
-
-none : (d : ℕ) (w : Bool) (t : ℕ) → Both d (emptied w t)
+none : (d : ℕ) (w : Bool) (t : ℕ) → BothLaddered d (emptied w t)
 none d w t Buy = record { sorted = tt; few = omega arith }
 none d w t Sell = record { sorted = tt; few = omega arith }
 
@@ -69,31 +65,31 @@ is_some_and : {X : Type 0} (P : X → Type 0) (o : Option X) (x : X) → o ≡ S
 is_some_and P o x e p = subst (λ o. IsSomeAnd o P) (sym e) p
 
 module _ (d : ℕ) where
-  put_ordered : (s : Side) (l : Level) (b : Known) → length (levels s (put s l b)) ≤ d → Both d b → Both d (put s l b)
+  put_ordered : (s : Side) (l : Level) (b : Known) → length (levels s (put s l b)) ≤ d → BothLaddered d b → BothLaddered d (put s l b)
   put_ordered Buy l b h o Buy = record { sorted = changed_sorted Buy l b.buys (o Buy).sorted; few = h }
   put_ordered Buy l b h o Sell = record { sorted = (o Sell).sorted; few = (o Sell).few }
   put_ordered Sell l b h o Buy = record { sorted = (o Buy).sorted; few = (o Buy).few }
   put_ordered Sell l b h o Sell = record { sorted = changed_sorted Sell l b.sells (o Sell).sorted; few = h }
 
-  limited_ordered : (s : Side) (l : Level) (b : Known) → Both d b → Both d (limited d s l b)
+  limited_ordered : (s : Side) (l : Level) (b : Known) → BothLaddered d b → BothLaddered d (limited d s l b)
   limited_ordered s l b o =
-      cond_both (leb (length (levels s (put s l b))) d) _ _ (Both d) (λ e. put_ordered s l b (leb-true _ d e) o) (λ _. none d false b.touched)
+      cond_both (leb (length (levels s (put s l b))) d) _ _ (BothLaddered d) (λ e. put_ordered s l b (leb-true _ d e) o) (λ _. none d false b.touched)
 
-  filled_ordered : (ps : List Point) (b : Known) → Both d b → Both d (filled d ps b)
+  filled_ordered : (ps : List Point) (b : Known) → BothLaddered d b → BothLaddered d (filled d ps b)
   filled_ordered [] b o = o
-  filled_ordered (p ∷ ps) b o = cond_both b.whole _ _ (Both d) (λ _. filled_ordered ps _ (limited_ordered p.side p.level b o)) (λ _. o)
+  filled_ordered (p ∷ ps) b o = cond_both b.whole _ _ (BothLaddered d) (λ _. filled_ordered ps _ (limited_ordered p.side p.level b o)) (λ _. o)
 
-  begun_ordered : (s : Start) (b : Known) → Both d b → Both d (begun s b)
+  begun_ordered : (s : Start) (b : Known) → BothLaddered d b → BothLaddered d (begun s b)
   begun_ordered (start.Full n) b o s = none d true n s
   begun_ordered (start.Delta n) b o Buy = record { sorted = (o Buy).sorted; few = (o Buy).few }
   begun_ordered (start.Delta n) b o Sell = record { sorted = (o Sell).sorted; few = (o Sell).few }
   begun_ordered (start.Refresh n) b o s = none d true b.touched s
 
-  told_ordered : (s : Start) (ps : List Point) (b : Known) → Both d b → Both d (told d s ps b)
-  told_ordered s ps b o = cond_both (taken s b) _ _ (Both d) (λ _. filled_ordered ps (begun s b) (begun_ordered s b o)) (λ _. o)
+  told_ordered : (s : Start) (ps : List Point) (b : Known) → BothLaddered d b → BothLaddered d (told d s ps b)
+  told_ordered s ps b o = cond_both (taken s b) _ _ (BothLaddered d) (λ _. filled_ordered ps (begun s b) (begun_ordered s b o)) (λ _. o)
 
 heard_ordered : (i : ℕ) (s : Start) (ps : List Point) (k : Kept) → InOrder k → InOrder (heard i s ps k)
-heard_ordered i s ps k o = record { all = all_changed (Both k.depth) (none k.depth false 0) i (told k.depth s ps) k.books (told_ordered k.depth s ps) o.all }
+heard_ordered i s ps k o = record { all = all_changed (BothLaddered k.depth) (none k.depth false 0) i (told k.depth s ps) k.books (told_ordered k.depth s ps) o.all }
 
 order : (e : Event) (k : Kept) → InOrder k → InOrder (keeper_step e k)
 order (data_of n (full i s ps)) k o = heard_ordered i (start.Full n) (full_points s ps) k o
@@ -101,13 +97,13 @@ order (data_of n (delta i s ps)) k o = heard_ordered i (start.Delta n) (delta_po
 order (data_of n (reset m)) k o = o
 order (data_of n (unavailable b e)) k o = o
 order (data_of n mapping) k o = o
-order (loss_of n) k o = record { all = all_none (Both k.depth) (none k.depth false 0) (length k.books) }
+order (loss_of n) k o = record { all = all_none (BothLaddered k.depth) (none k.depth false 0) (length k.books) }
 order (refresh_of n (full i s ps)) k o = cond_both (leb k.mark n) _ _ InOrder (λ _. heard_ordered i (start.Refresh n) (full_points s ps) k o) (λ _. o)
 order (refresh_of n (delta i s ps)) k o = o
 order (refresh_of n (reset m)) k o = o
 order (refresh_of n (unavailable b e)) k o = o
 order (refresh_of n mapping) k o = o
-order (restart_of n) k o = record { all = all_none (Both k.depth) (none k.depth false 0) (length k.books) }
+order (restart_of n) k o = record { all = all_none (BothLaddered k.depth) (none k.depth false 0) (length k.books) }
 
 after_all : (ps : List Point) (b : Known) → Ordered b → AfterPoints ps b (put_all ps b)
 after_all ps b o = record { whole = all_whole ps b; touched = all_touched ps b; each = all_after ps b o }
@@ -125,7 +121,7 @@ refresh_is n i s ps k b e m t f =
 pub keeps : Keeping
 keeps =
     record {
-      begins = λ d n. record { all = all_none (Both d) (none d false 0) n };
+      begins = λ d n. record { all = all_none (BothLaddered d) (none d false 0) n };
       order = order;
       full_known = full_is;
       refresh_known = refresh_is;
@@ -134,6 +130,6 @@ keeps =
       refresh_levels = λ n i s ps k b e m t f. is_some_and _ _ _ (refresh_is n i s ps k b e m t f) (after_all (full_points s ps) (emptied true b.touched) (none_sorted true b.touched));
       delta_levels = λ n i s ps k b o e w f.
           let at = nth_some k.books i unknown b e in
-          let both = subst (Both k.depth) at.1 (one_of (Both k.depth) (none k.depth false 0) k.books i o.all) in
+          let both = subst (BothLaddered k.depth) at.1 (one_of (BothLaddered k.depth) (none k.depth false 0) k.books i o.all) in
           is_some_and _ _ _ (heard_fit i (start.Delta n) (delta_points s ps) k b e refl w f) (after_all (delta_points s ps) (touched_at n b) (begun_sorted (start.Delta n) b (λ s. (both s).sorted)));
     }

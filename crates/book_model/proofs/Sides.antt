@@ -20,8 +20,6 @@ pub side_laws : (s : Side) → RowLaws price_of (before s)
 side_laws Buy = laws price_of (before Buy) (λ a b. turned (rising_one a b)) (λ a b c p q. rising_transitive c b a q p)
 side_laws Sell = laws price_of (before Sell) rising_one rising_transitive
 
--- a book with other levels on one side
-
 pub levels_with : (s : Side) (xs : List Level) (k : Known) → levels s (with_levels s xs k) ≡ xs
 levels_with Buy xs k = refl
 levels_with Sell xs k = refl

@@ -27,9 +27,13 @@ pub record Laddered (d : ℕ) (b : Known) (s : Side) : Type 0 where
   pub sorted : Sorted price_of (before s) (levels s b)
   pub few : length (levels s b) ≤ d
 
--- both sides of each book are in order
+-- both sides of a book are so
+abbrev pub BothLaddered : ℕ → Known → Type 0
+BothLaddered d b = (s : Side) → Laddered d b s
+
+-- both sides of each book are so
 pub record InOrder (k : Kept) : Type 0 where
-  pub all : AllByRecursion (λ b. (s : Side) → Laddered k.depth b s) k.books
+  pub all : AllByRecursion (BothLaddered k.depth) k.books
 
 -- no point of a message makes a side longer than d levels
 abbrev pub PointsFit : ℕ → List Point → Known → Type 0

@@ -55,10 +55,6 @@ module _ (t : Tables) (i : ℕ) (h : i < length t.books.now) where
         told = ap (changed_at (suc i) (filled t.depth qs)) e ∙ set-set ks i (f k) _ ∙ ap (set ks i) (ap (filled t.depth qs) (get_or-set_same ks i (f k) unknown lt) ∙ sym q);
       }
 
--- no change
-pub leaves_all : (t : Tables) (i : ℕ) (ps : List Point) → Leaves t t i ps ps
-leaves_all t i ps = record { depth = refl; told = refl }
-
 -- a place among the books stays one
 pub leaves_among : (t u : Tables) (i : ℕ) (ps qs : List Point) → Leaves t u i ps qs → i < length t.books.now → i < length u.books.now
 leaves_among t u i ps qs l h = among u t i _ _ l.told h

@@ -8,6 +8,7 @@ use Rattle.book_model.specs.Entering.{Known, unknown}
 use Rattle.book_model.specs.Keepers.{changed_at, book_of}
 use Rattle.books.specs.declared.book.BookRow.{BookRow}
 use Rattle.books.specs.declared.tables.Tables.{Tables}
+use Rattle.books.specs.declared.tables.TheConstants.{MOST_DEPTH}
 use Rattle.std.specs.Prelude.{MatchOption}
 use Rattle.std.specs.Bool.{then_some}
 use Rattle.std.proofs.lemmas.Bool.{ltb-true, ltb-false}
@@ -150,7 +151,7 @@ all_fit d bs xs ys p ex ey =
 
 -- what the test of the sizes says
 module _ (bs : List BookRow) (xs ys : List Level) (d : ℕ) (h : tables_fit bs xs ys d ≡ true) where
-  pub sizes : (1 ≤ d) × (d ≤ 4096) × (length xs ≡ length bs * d) × (length ys ≡ length bs * d)
+  pub sizes : (1 ≤ d) × (d ≤ MOST_DEPTH) × (length xs ≡ length bs * d) × (length ys ≡ length bs * d)
   sizes = search rules
 
   pub room : length (tabled d bs xs ys) ≡ length bs

@@ -25,6 +25,7 @@ impl<'a, 'b, 'c> BookKeeper<'a, 'b, 'c> {
     /// A keeper over checked tables that knows of no book, whatever the tables held: as after a restart at 1.
     pub fn new(tables: Tables<'a, 'b, 'c>) -> BookKeeper<'a, 'b, 'c>
         ensures fresh { keeper_means result ≡ fresh tables.entry.depth (length (tables_known tables.entry)) }
+        ensures tables { result.tables ≡ tables.entry }
         ensures restarted { (k : Kept) → k.depth ≡ tables.entry.depth → length k.books ≡ length (tables_known tables.entry) → keeper_means result ≡ keeper_step (restart_of 1) k }
     {
         BookKeeper {
@@ -140,7 +141,8 @@ impl<'a, 'b, 'c> Sink for BookKeeper<'a, 'b, 'c> {
     }
 }
 
-/// The step of a keeper, as a sink, is what `keeper_step` says: a theorem.
+/// As a sink, a keeper means what `keeper_means` says, and its step is `keeper_step`: a theorem.
 pub fn keeper_moves()
-    ensures { Moves ⟦<BookKeeper<'static, 'static, 'static> as Sink>⟧.step keeper_step (λ (k : Kept). k) }
+    ensures means { (k : BookKeeper) → ⟦<BookKeeper<'static, 'static, 'static> as Sink>⟧.means k ≡ keeper_means k }
+    ensures step { Moves ⟦<BookKeeper<'static, 'static, 'static> as Sink>⟧.step keeper_step (λ (k : Kept). k) }
 {}

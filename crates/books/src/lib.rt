@@ -14,4 +14,4 @@ pub use book::{Book, BookRow};
 pub use book_model::Level;
 pub use fault::TableFault;
 pub use keeper::{BookKeeper, keeper_moves};
-pub use tables::{RefusedTables, Tables};
+pub use tables::{MOST_BOOKS, MOST_DEPTH, RefusedTables, Tables};

@@ -9,6 +9,12 @@ use book_model::Level;
 use std::ops::Range;
 use wire::Side;
 
+/// The most books of a keeper.
+pub const MOST_BOOKS: usize = 1024;
+
+/// The most levels of a side of a book.
+pub const MOST_DEPTH: usize = 4096;
+
 /// Tables whose sizes are checked: N books, and N times D levels of each side.
 // Kept as three lent slices: memory is fixed, so callers own the tables and may have each where they like.
 // Kept with `tables_known` in the contracts: they speak of the tables' own rows and of what is known of them in one line, and a Model would hide the rows.
@@ -35,8 +41,8 @@ pub struct RefusedTables<'a, 'b, 'c> {
 fn fit(books: &[BookRow], buys: &[Level], sells: &[Level], depth: usize) -> bool
     ensures is { result ≡ tables_fit books.now buys.now sells.now depth }
 {
-    (1..=1024).contains(&books.len())
-        && (1..=4096).contains(&depth)
+    (1..=MOST_BOOKS).contains(&books.len())
+        && (1..=MOST_DEPTH).contains(&depth)
         && buys.len() == books.len() * depth
         && sells.len() == books.len() * depth
 }

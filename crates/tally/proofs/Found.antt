@@ -14,15 +14,11 @@ use Rattle.ladder.specs.Tables.{There, Missing}
 use Rattle.tally.specs.declared.row.Row.{Row}
 use Rattle.tally.specs.declared.tally.Tally.{Tally}
 use Rattle.tally.specs.Rows.{row_key, row_before, blank}
-use Rattle.tally.specs.Tallies.{Counts, executed_of, capped64, summed, become, added}
+use Rattle.tally.specs.Tallies.{Counts, executed_of, capped64, row_of, summed, become, added}
 
 -- what holds of rows in the order of their indexes
 pub row_laws : RowLaws row_key row_before
 row_laws = laws row_key row_before rising_one rising_transitive
-
--- the row with an index and a volume
-abbrev pub row_of : ℕ → ℕ → Row
-row_of i x = record { index = i; executed = x }
 
 module _ (rs : List Row) (used : ℕ) where
   -- a row among those that are used

@@ -43,13 +43,13 @@ capped32 n = min n 4294967295
 abbrev pub executed_of : ℕ → List Row → Option ℕ
 executed_of i rs = option_map (λ r. r.executed) (kept row_key row_before i rs)
 
--- the row of an index with a quantity more
-abbrev pub row_with : ℕ → ℕ → List Row → Row
-row_with i q rs = record { index = i; executed = capped64 (unwrap_or (executed_of i rs) 0 + q) }
+-- the row of an index with a volume
+abbrev pub row_of : ℕ → ℕ → Row
+row_of i x = record { index = i; executed = x }
 
 -- rows with a quantity more for an index
 abbrev pub summed : ℕ → ℕ → List Row → List Row
-summed i q rs = inserted row_key row_before (row_with i q rs) rs
+summed i q rs = inserted row_key row_before (row_of i (capped64 (unwrap_or (executed_of i rs) 0 + q))) rs
 
 -- the rows become rs, or a miss is counted where they are too many
 abbrev pub become : List Row → Counts → Counts

@@ -35,7 +35,7 @@ impl<'a> Tally<'a> {
     ghost use Rattle.tally.specs.Tallies.{meant, fresh, lent, step as stepped};
     ghost use Rattle.tally.specs.Laws.{InOrder};
 
-    /// A tally of the lent rows, all free and as they were. It stands as after a restart.
+    /// A tally of the lent rows, all free and as they were. A restart leaves a tally as it is, so a new one stands as after a restart at 1.
     pub fn new(rows: &'a mut [Row]) -> Tally<'a>
         ensures free { meant result ≡ fresh (length rows.old) }
         ensures restarted { meant result ≡ stepped (restart_of 1) (fresh (length rows.old)) }

@@ -2,8 +2,8 @@ use Rattle.std.proofs.Common.{◌∙◌, refl, ap, arith, rules}
 use Rattle.std.proofs.lemmas.List.{length-set}
 use Rattle.rank.specs.Rows.{inserted}
 use Rattle.tally.specs.Rows.{row_key, row_before}
-use Rattle.tally.specs.Tallies.{meant, become}
-use Rattle.tally.proofs.Found.{row_of, written_sorted, there_added, missing_added}
+use Rattle.tally.specs.Tallies.{meant, row_of, become}
+use Rattle.tally.proofs.Found.{written_sorted, there_added, missing_added}
 use Rattle.tally.proofs.tally.Tally.add.Goals as goal
 
 pub invariant_of-self : goal.invariant_of-self
