@@ -24,15 +24,16 @@ impl Tables<'_, '_, '_> {
     {
         let rows = self.rows(i);
         let books = &mut *self.books;
-        let Book { buys, sells, .. } = books[i].book;
+        let row = &mut books[i];
+        let Book { buys, sells, .. } = row.book;
         match point.side {
             Side::Buy => match change::<Buys>(&mut self.buys[rows], buys, point.level) {
-                Some(used) => books[i].book.buys = used,
-                None => books[i].book = books[i].book.overflown(),
+                Some(used) => row.book.buys = used,
+                None => row.book = row.book.overflown(),
             },
             Side::Sell => match change::<Sells>(&mut self.sells[rows], sells, point.level) {
-                Some(used) => books[i].book.sells = used,
-                None => books[i].book = books[i].book.overflown(),
+                Some(used) => row.book.sells = used,
+                None => row.book = row.book.overflown(),
             },
         }
     }
@@ -66,16 +67,17 @@ impl Tables<'_, '_, '_> {
     {
         let rows = self.rows(i);
         let books = &mut *self.books;
-        let book = books[i].book;
+        let row = &mut books[i];
+        let book = row.book;
         match side {
             Side::Buy if book.whole && book.buys == 0 => {
                 let (used, next) = lay(&mut self.buys[rows], side, scale, first, points);
-                books[i].book.buys = used as u16;
+                row.book.buys = used as u16;
                 next
             }
             Side::Sell if book.whole && book.sells == 0 => {
                 let (used, next) = lay(&mut self.sells[rows], side, scale, first, points);
-                books[i].book.sells = used as u16;
+                row.book.sells = used as u16;
                 next
             }
             _ => first,

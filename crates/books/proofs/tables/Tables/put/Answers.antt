@@ -28,7 +28,7 @@ invariant_of-self-in-None-clause-ordered c =
     let t = c.args.self.now in
     let l = c.args.point.level in
     let rows = c.rows-rows.result in
-    limited_ordered t c.args.i Buy l _ (buys_lost t c.args.i c.requires rows.start (rows.end - rows.start) c.rows-rows.ensures.start (omega arith) l c.change.new.rows c.overflown.result c.overflown.ensures c.change.auto.rows c.in-None.ensures)
+    limited_ordered t c.args.i Buy l _ (buys_lost t c.args.i c.requires rows.start (rows.end - rows.start) c.rows-rows.ensures.start (omega arith) l c.change.new.rows c.overflown-row.result c.overflown-row.ensures c.change.auto.rows c.in-None.ensures)
 
 pub returns-in-Some : goal.returns-in-Some
 returns-in-Some c =
@@ -48,7 +48,7 @@ returns-in-None c =
     let rows = c.rows-rows.result in
     record {
       depth = refl;
-      books = buys_lost t c.args.i c.requires rows.start (rows.end - rows.start) c.rows-rows.ensures.start (omega arith) l c.change.new.rows c.overflown.result c.overflown.ensures c.change.auto.rows c.in-None.ensures
+      books = buys_lost t c.args.i c.requires rows.start (rows.end - rows.start) c.rows-rows.ensures.start (omega arith) l c.change.new.rows c.overflown-row.result c.overflown-row.ensures c.change.auto.rows c.in-None.ensures
           ∙ ap (λ s. changed_at (suc c.args.i) (limited t.depth s l) (tables_known t)) (sym c.in-Buy.is);
     }
 
@@ -64,7 +64,7 @@ invariant_of-self-in-None-change-clause-ordered c =
     let t = c.args.self.now in
     let l = c.args.point.level in
     let rows = c.rows-rows.result in
-    limited_ordered t c.args.i Sell l _ (sells_lost t c.args.i c.requires rows.start (rows.end - rows.start) c.rows-rows.ensures.start (omega arith) l c.change-in-Sell.new.rows c.overflown-in-None-change.result c.overflown-in-None-change.ensures c.change-in-Sell.auto.rows c.in-None-change.ensures)
+    limited_ordered t c.args.i Sell l _ (sells_lost t c.args.i c.requires rows.start (rows.end - rows.start) c.rows-rows.ensures.start (omega arith) l c.change-in-Sell.new.rows c.overflown-row-in-None-change.result c.overflown-row-in-None-change.ensures c.change-in-Sell.auto.rows c.in-None-change.ensures)
 
 pub returns-in-Some-change : goal.returns-in-Some-change
 returns-in-Some-change c =
@@ -84,6 +84,6 @@ returns-in-None-change c =
     let rows = c.rows-rows.result in
     record {
       depth = refl;
-      books = sells_lost t c.args.i c.requires rows.start (rows.end - rows.start) c.rows-rows.ensures.start (omega arith) l c.change-in-Sell.new.rows c.overflown-in-None-change.result c.overflown-in-None-change.ensures c.change-in-Sell.auto.rows c.in-None-change.ensures
+      books = sells_lost t c.args.i c.requires rows.start (rows.end - rows.start) c.rows-rows.ensures.start (omega arith) l c.change-in-Sell.new.rows c.overflown-row-in-None-change.result c.overflown-row-in-None-change.ensures c.change-in-Sell.auto.rows c.in-None-change.ensures
           ∙ ap (λ s. changed_at (suc c.args.i) (limited t.depth s l) (tables_known t)) (sym c.in-Sell.is);
     }
