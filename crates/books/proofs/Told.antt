@@ -1,5 +1,6 @@
 -- The tables once a side of the book at i is written, and once its row is.
-use Rattle.std.proofs.Common.{◌≡◌, ℕ, suc, ◌*◌, ◌<◌, true, false, List, length, get_or, take, drop, set, replicate, sym, refl, ap, ◌∙◌, subst}
+use Rattle.std.proofs.Common.{◌≡◌, ℕ, suc, ◌*◌, ◌<◌, true, false, List, [], length, get_or, take, drop, set, replicate, sym, refl, ap, ◌∙◌, subst}
+use Rattle.std.proofs.lemmas.List.{set-get_or}
 use borrow.Rule.Slice.PartMut.{put_mid}
 use Rattle.wire.specs.declared.point.Side.{Side}
 use Rattle.wire.specs.declared.point.Side.TheVariants.{Buy, Sell}
@@ -114,3 +115,20 @@ module _ (t : Tables) (i : ℕ) (h : i < length t.books.now) (from w : ℕ) (at 
   sells_laid s us used e long =
       sells_put t i h _ blank from w us (with_levels s (take used us)) at wide long
       (λ zs. ap (λ s. with_levels s (take used us) (known (get_or t.books.now i blank).book zs (take w (drop from t.sells.now)))) (sym e))
+
+  -- rows are written of a side that has none in use
+  pub buys_unused : (us : List Level) → (get_or t.books.now i blank).book.buys ≡ 0 → length us ≡ length (take w (drop from t.buys.now))
+      → AllOrdered (tabled t.depth t.books.now (put_mid from w t.buys.now us) t.sells.now)
+  buys_unused us none long =
+      let b = (get_or t.books.now i blank).book in
+      let same : set t.books.now i (record { book = record { whole = b.whole; touched = b.touched; buys = 0; sells = b.sells } }) ≡ t.books.now =
+      ap (λ n. set t.books.now i (record { book = record { whole = b.whole; touched = b.touched; buys = n; sells = b.sells } })) (sym none) ∙ set-get_or t.books.now i blank in
+      subst (λ bs. AllOrdered (tabled t.depth bs (put_mid from w t.buys.now us) t.sells.now)) same (laid_ordered t i Buy [] _ tt (buys_laid Buy us 0 refl long))
+
+  pub sells_unused : (us : List Level) → (get_or t.books.now i blank).book.sells ≡ 0 → length us ≡ length (take w (drop from t.sells.now))
+      → AllOrdered (tabled t.depth t.books.now t.buys.now (put_mid from w t.sells.now us))
+  sells_unused us none long =
+      let b = (get_or t.books.now i blank).book in
+      let same : set t.books.now i (record { book = record { whole = b.whole; touched = b.touched; buys = b.buys; sells = 0 } }) ≡ t.books.now =
+      ap (λ n. set t.books.now i (record { book = record { whole = b.whole; touched = b.touched; buys = b.buys; sells = n } })) (sym none) ∙ set-get_or t.books.now i blank in
+      subst (λ bs. AllOrdered (tabled t.depth bs t.buys.now (put_mid from w t.sells.now us))) same (laid_ordered t i Sell [] _ tt (sells_laid Sell us 0 refl long))

@@ -66,18 +66,16 @@ impl Tables<'_, '_, '_> {
         ensures { Leaves self.old self.new i (points_of P.named scale (pending first points.old)) (points_of P.named scale (pending result points.new)) }
     {
         let rows = self.rows(i);
-        let books = &mut *self.books;
-        let row = &mut books[i];
-        let book = row.book;
+        let book = self.books[i].book;
         match side {
             Side::Buy if book.whole && book.buys == 0 => {
                 let (used, next) = lay(&mut self.buys[rows], side, scale, first, points);
-                row.book.buys = used as u16;
+                self.books[i].book.buys = used as u16;
                 next
             }
             Side::Sell if book.whole && book.sells == 0 => {
                 let (used, next) = lay(&mut self.sells[rows], side, scale, first, points);
-                row.book.sells = used as u16;
+                self.books[i].book.sells = used as u16;
                 next
             }
             _ => first,

@@ -6,11 +6,21 @@ use Rattle.books.specs.Keepers.{tables_known}
 use Rattle.books.specs.Laying.{pending}
 use Rattle.books.proofs.Filling.{leaves}
 use Rattle.books.proofs.Rows.{book_is}
-use Rattle.books.proofs.Told.{laid_ordered, buys_long, sells_long, buys_laid, sells_laid}
+use Rattle.books.proofs.Told.{laid_ordered, buys_long, sells_long, buys_laid, sells_laid, buys_unused, sells_unused}
 use Rattle.books.proofs.tables.Tables.lay_side.Goals as goal
 
 pub invariant_of-self-clause-ordered : goal.invariant_of-self-clause-ordered
 invariant_of-self-clause-ordered g c =
+    let rows = c.rows-rows.result in
+    buys_unused c.args.self.now c.args.i c.requires rows.start (rows.end - rows.start) c.rows-rows.ensures.start (omega arith) c.lay-used.new.rows c.if-book-eq0.true c.lay-used.auto.rows
+
+pub invariant_of-self-in-Sell-clause-ordered : goal.invariant_of-self-in-Sell-clause-ordered
+invariant_of-self-in-Sell-clause-ordered g c =
+    let rows = c.rows-rows.result in
+    sells_unused c.args.self.now c.args.i c.requires rows.start (rows.end - rows.start) c.rows-rows.ensures.start (omega arith) c.lay-used-in-Sell.new.rows c.if-book-eq0-2.true c.lay-used-in-Sell.auto.rows
+
+pub invariant_of-self-in-Buy-clause-ordered : goal.invariant_of-self-in-Buy-clause-ordered
+invariant_of-self-in-Buy-clause-ordered g c =
     let t = c.args.self.now in
     let rows = c.rows-rows.result in
     let us = c.lay-used.new.rows in
@@ -37,8 +47,8 @@ returns-in-Buy g c =
     ∙ c.lay-used.ensures.told k (ap (λ k. k.whole) is ∙ c.if-book.true) none
     ∙ ap (λ d. filled d (named (pending c.lay-used.result.1 c.lay-used.new.points)) (with_levels s (take used us) k)) long)
 
-pub invariant_of-self-in-Sell-clause-ordered : goal.invariant_of-self-in-Sell-clause-ordered
-invariant_of-self-in-Sell-clause-ordered g c =
+pub invariant_of-self-in-Sell-2-clause-ordered : goal.invariant_of-self-in-Sell-2-clause-ordered
+invariant_of-self-in-Sell-2-clause-ordered g c =
     let t = c.args.self.now in
     let rows = c.rows-rows.result in
     let us = c.lay-used-in-Sell.new.rows in
