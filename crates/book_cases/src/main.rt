@@ -28,6 +28,12 @@ const OLD_LEVEL: Level = Level {
     orders: 7,
 };
 
+// What the rows of a tally held before.
+const OLD_ROW: Row = Row {
+    index: 7,
+    executed: 7,
+};
+
 // What stands beside the proved sinks, by index: the books as they should be kept, the books as they are in truth, and as they were some time ago.
 #[derive(Drop)]
 struct Beside {
@@ -205,6 +211,21 @@ impl Trial<'_, '_, '_, '_> {
         self.compare()
     }
 
+    // All events, with a comparison after each, in which every case is met.
+    fn play(&mut self) -> anyhow::Result<()> {
+        self.compare()?;
+        for number in 1..=EVENTS {
+            self.event(number)?;
+        }
+        ensure!(
+            self.beside.used_refreshes > 100
+                && self.beside.whole_seen > 100
+                && self.beside.overflows > 0,
+            "a case was never met"
+        );
+        Ok(())
+    }
+
     // Every book and every row, compared.
     fn compare(&mut self) -> anyhow::Result<()> {
         same_books(self.alloc, self.sinks.first(), &self.beside)?;
@@ -276,6 +297,11 @@ fn all_unknown(tables: &Tables<'_, '_, '_>) -> bool {
     })
 }
 
+// The levels of one side of every book.
+fn old_levels(alloc: Global, depth: u16) -> Result<Vec<Level>, AllocError> {
+    vec![in alloc; OLD_LEVEL; usize::from(BOOKS) * usize::from(depth)]
+}
+
 // The rows of the books are as an earlier trial left them.
 fn run_trial(
     rt: &HostRuntime,
@@ -285,43 +311,22 @@ fn run_trial(
     prices: u32,
 ) -> anyhow::Result<()> {
     let alloc = rt.alloc();
-    let levels = usize::from(BOOKS) * usize::from(depth);
-    let mut buys = vec![in alloc; OLD_LEVEL; levels]?;
-    let mut sells = vec![in alloc; OLD_LEVEL; levels]?;
-    let mut rows = vec![in alloc; Row {
-        index: 7,
-        executed: 7
-    }; usize::from(room)]?;
-    let checked = Tables::check(
-        books,
-        buys.as_mut_slice(),
-        sells.as_mut_slice(),
-        usize::from(depth),
-    );
-    let tables = match checked {
+    let mut buys = old_levels(alloc, depth)?;
+    let mut sells = old_levels(alloc, depth)?;
+    let mut rows = vec![in alloc; OLD_ROW; usize::from(room)]?;
+    let tables = match Tables::check(books, &mut buys, &mut sells, usize::from(depth)) {
         Ok(tables) => tables,
         Err(refused) => return Err(refused.fault.into()),
     };
     let mut trial = Trial {
         alloc,
-        sinks: Twin::new(BookKeeper::new(tables), Tally::new(rows.as_mut_slice())),
+        sinks: Twin::new(BookKeeper::new(tables), Tally::new(&mut rows)),
         beside: Beside::new(alloc, usize::from(depth), usize::from(room))?,
         random: Random::new(2_463_534_242),
         prices,
     };
-    trial.compare()?;
-    for number in 1..=EVENTS {
-        trial.event(number)?;
-    }
-    let Trial {
-        mut sinks,
-        beside,
-        ..
-    } = trial;
-    ensure!(
-        beside.used_refreshes > 100 && beside.whole_seen > 100 && beside.overflows > 0,
-        "a case was never met"
-    );
+    trial.play()?;
+    let Trial { mut sinks, .. } = trial;
     sinks.loss(EVENTS + 1);
     let (keeper, _tally) = sinks.into_parts();
     ensure!(

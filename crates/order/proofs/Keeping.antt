@@ -10,6 +10,7 @@ use Rattle.book_model.specs.declared.level.Level.{Level}
 use Rattle.book_model.specs.Levels.{price_of, before, changed}
 use Rattle.book_model.specs.Entering.{Known, unknown, emptied, touched_at, levels, put, put_all, limited, filled, full_points, delta_points}
 use Rattle.book_model.specs.Keepers.{Kept, book_of, changed_at, forgotten, keeper_step}
+use Rattle.book_model.proofs.Sides.{touched_with}
 use Rattle.order.specs.Machine.{turn}
 use Rattle.order.proofs.Plain.{never}
 use Rattle.order.specs.Books.{Sides, no_levels, sides_of, whole_book, full_entered, delta_entered, sent}
@@ -23,13 +24,9 @@ put_all_same : (ps : _) (b c : Known) → sides_of b ≡ sides_of c → sides_of
 put_all_same [] b c e = e
 put_all_same (p ∷ ps) b c e = put_all_same ps (put p.side p.level b) (put p.side p.level c) (put_same p.side p.level b c e)
 
-put_touched : (s : Side) (l : Level) (b : Known) → (put s l b).touched ≡ b.touched
-put_touched Buy l b = refl
-put_touched Sell l b = refl
-
 limited_touched : (d : ℕ) (s : Side) (l : Level) (b : Known) → (limited d s l b).touched ≡ b.touched
 limited_touched d s l b =
-    cond_both (leb (length (levels s (put s l b))) d) (put s l b) (emptied false b.touched) (λ x. x.touched ≡ b.touched) (λ _. put_touched s l b) (λ _. refl)
+    cond_both (leb (length (levels s (put s l b))) d) (put s l b) (emptied false b.touched) (λ x. x.touched ≡ b.touched) (λ _. touched_with s (changed price_of (before s) l (levels s b)) b) (λ _. refl)
 
 -- a book's touch stays as its points come in
 filled_touched : (d : ℕ) (ps : _) (b : Known) → (filled d ps b).touched ≡ b.touched
