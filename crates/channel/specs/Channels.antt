@@ -1,5 +1,5 @@
 -- What a channel of the code means.
-use Rattle.std.specs.Prelude.{ℕ, Result}
+use Rattle.std.specs.Prelude.{ℕ, Option, Result}
 use Rattle.std.specs.Option.{option_map}
 use Rattle.wire.specs.Sources.{source_bytes}
 use Rattle.handover.specs.declared.fault.ChannelFault.{ChannelFault}
@@ -26,6 +26,10 @@ opened_with last o = record {
   claims = o.claims;
 }
 
+-- a channel of the code, open or closed, whatever its sink and its shelf mean
+abbrev pub opened_of : {X Y : Type 0} → Channel X Y → Option Opened
+opened_of c = option_map (opened_with c.handover.last) c.open
+
 -- an open channel with this last number, and the claim that it gives
 abbrev pub told_claim : ℕ → Result (Open × Owed) ChannelFault → Result (Opened × Claim) ChannelFault
 told_claim last r = answer r (λ v. (opened_with last v.0, claim_out v.0.number v.1))
@@ -34,7 +38,7 @@ module _ {X Y : Type 0} (sink : Sink X) (shelf : Shelf Y) where
   -- the state of a channel
   abbrev pub state : Channel X Y → State sink.Meaning
   state c = record {
-    opened = option_map (opened_with c.handover.last) c.open;
+    opened = opened_of c;
     shelf = shelf.means c.handover.shelf;
     sink = sink.means c.handover.sink;
   }

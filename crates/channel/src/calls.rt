@@ -29,7 +29,8 @@ impl<S: Sink, H: Shelf> Channel<S, H> {
     /// Refused, with nothing changed, where the channel is open, for a first number of zero, and for a source id that has not 1 to 20 nonzero bytes.
     ///
     /// Channels in use at once are to have different numbers. A claim is known by its channel's number and its serial: only then is the range that
-    /// a settlement counts the range of the claim that it is given.
+    /// a settlement counts the range of the claim that it is given. A channel that is let go or taken apart while its claim is out is still in use in
+    /// this sense, until that claim is settled: no later channel of its number is to be made while a claim of the first lives.
     pub fn make(&mut self, number: u8, source: &[u8], first: u32) -> Result<(), ChannelFault>
         ensures answer { result ≡ make_answer (state (S.Sink) (H.Shelf) self.old) source.now first }
         ensures after { state (S.Sink) (H.Shelf) self.new ≡ make_after S.Sink.step (state (S.Sink) (H.Shelf) self.old) number source.now first }

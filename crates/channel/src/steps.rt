@@ -27,7 +27,7 @@ impl<S: Sink, H: Shelf> Channel<S, H> {
         if first == 0 {
             return Err(ChannelFault::Zero);
         }
-        let source = SourceId::try_from(source).map_err(|_| ChannelFault::Source)?;
+        let source = SourceId::try_from(source)?;
         self.handover.begin(first);
         self.open = Some(Open {
             number,

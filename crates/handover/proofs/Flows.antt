@@ -91,6 +91,14 @@ above_some : (h : Packets) (l m : ℕ) → Some m ≡ above h l → Up 0 h → (
 above_some h l m e up =
     subst (λ o. MatchOption o ((j : ℕ) → has h j ≡ true → j ≤ l) (λ m. (l < m) × (has h m ≡ true) × ((j : ℕ) → l < j → has h j ≡ true → m ≤ j))) (sym e) ((held_is_a_map h up).least l)
 
+-- where the next number is not held, the least one held above last is past it
+over : (h : Packets) (l m : ℕ) → Some m ≡ above h l → has h (l + 1) ≡ false → Up 0 h → l + 1 < m
+over h l m e rest up =
+    let x = above_some h l m e up in
+    let past : l < m = x.0 in
+    let next : m ≡ l + 1 → ⊥ = λ q. both_ways (has h m) (ap (has h) q ∙ rest) x.1 in
+    omega arith
+
 -- a gap: from the next number on, below the least one held, none is held
 pub record Gap (l : ℕ) (h : Packets) (m : ℕ) : Type 0 where
   pub past : l + 1 < m
@@ -103,10 +111,8 @@ gap_found l h m up e = go (has h (l + 1)) refl e
     go true rest e = absurd (never (cc))
     go false rest e =
         let x = above_some h l m e up in
-        let over : l < m = x.0 in
-        let next : m ≡ l + 1 → ⊥ = λ q. both_ways (has h m) (ap (has h) q ∙ rest) x.1 in
         record {
-          past = omega arith;
+          past = over h l m e rest up;
           missing = λ n a b. ⊎_elim (λ t. absurd (let z = x.2 n a t in omega arith)) (λ t. t) (cases_Bool (has h n));
         }
 
@@ -183,10 +189,10 @@ above_none h l n e up a =
     let x = subst (λ o. MatchOption o ((j : ℕ) → has h j ≡ true → j ≤ l) (λ m. (l < m) × (has h m ≡ true) × ((j : ℕ) → l < j → has h j ≡ true → m ≤ j))) (sym e) ((held_is_a_map h up).least l) in
     ⊎_elim (λ t. absurd (let s = x n t in omega arith)) (λ t. t) (cases_Bool (has h n))
 
--- the least number held above last, if there is one, is above it
-pub above_past : (h : Packets) (l : ℕ) (o : Option ℕ) → o ≡ above h l → Up 0 h → IfSome o (λ m. l < m)
-above_past h l None e up = tt
-above_past h l (Some m) e up = (above_some h l m e up).0
+-- where the next number is not held, the least one held above last, if there is one, is past it
+pub above_over : (h : Packets) (l : ℕ) (o : Option ℕ) → o ≡ above h l → has h (l + 1) ≡ false → Up 0 h → IfSome o (λ m. l + 1 < m)
+above_over h l None e rest up = tt
+above_over h l (Some m) e rest up = over h l m e rest up
 
 -- the least number held above last is not 0
 pub above_positive : (h : Packets) (l m : ℕ) → Some m ≡ above h l → Up 0 h → 1 ≤ m

@@ -1,5 +1,7 @@
 -- The number of each refusal of a channel, and what stands beside it; and their texts.
 use Rattle.std.specs.Prelude.{ℕ, List, ◌++◌, Some, None, codes, decimal, Option}
+use Rattle.wire.specs.declared.fault.RequestFault.{RequestFault}
+use Rattle.wire.specs.declared.fault.RequestFault.TheVariants.{Short as ShortBuffer, Source as WrongSource}
 use Rattle.wire.specs.Faults.{fault_number}
 use Rattle.wire.specs.Texts.{fault_text}
 use Rattle.shelf.specs.Store.{put_fault_number}
@@ -25,6 +27,11 @@ channel_fault Other = (18, None)
 channel_fault Zero = (19, None)
 channel_fault Source = (20, None)
 channel_fault Phase = (23, None)
+
+-- a refusal of a request, as the channel's
+abbrev pub request_refused : RequestFault → ChannelFault
+request_refused ShortBuffer = Short
+request_refused WrongSource = Source
 
 -- the number of each refusal of an offer: that of the reader, the shelf or the channel
 abbrev pub offer_fault_number : OfferFault → ℕ

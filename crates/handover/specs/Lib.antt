@@ -3,3 +3,4 @@ pub mod Words
 pub mod Flows
 pub mod Offers
 pub mod Handovers
+pub mod Laws

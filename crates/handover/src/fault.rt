@@ -1,12 +1,13 @@
 //! Why a call of a channel is refused.
 ghost use Rattle.std.specs.Prelude.{◌≡◌, Some};
 ghost use Rattle.handover.specs.declared.fault.OfferFault.TheVariants.{Reader, Shelf, Channel};
-ghost use Rattle.handover.specs.Faults.{call_fault_text, channel_fault, offer_fault_number, offer_fault_text};
+ghost use Rattle.handover.specs.Faults.{call_fault_text, channel_fault, offer_fault_number, offer_fault_text, request_refused};
 
+use common::Refusal;
 use shelf::PutFault;
 use std::error::Error;
 use std::fmt;
-use wire::ReadFault;
+use wire::{ReadFault, RequestFault};
 
 /// Why the channel itself refuses a call.
 #[derive(Clone, Copy, PartialEq, Eq, Debug)]
@@ -79,11 +80,22 @@ impl fmt::Display for ChannelFault {
     ghost output = { λ fault. Some (call_fault_text fault) };
 
     fn fmt<W: fmt::Write>(&self, f: &mut fmt::Formatter<W>) -> fmt::Result {
-        write!(f, "refused {}", self.number())
+        write!(f, "{}", Refusal(self.number()))
     }
 }
 
 impl Error for ChannelFault {}
+
+impl From<RequestFault> for ChannelFault {
+    ghost from_gives = { λ f r. r ≡ request_refused f };
+
+    fn from(fault: RequestFault) -> ChannelFault {
+        match fault {
+            RequestFault::Short => Self::Short,
+            RequestFault::Source => Self::Source,
+        }
+    }
+}
 
 /// Why an offer is refused: by the reader, the shelf or the channel, with the fault of each whole.
 #[derive(Clone, Copy, PartialEq, Eq, Debug)]

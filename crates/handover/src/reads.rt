@@ -55,10 +55,10 @@ impl<S, H> Handover<S, H> {
 
 impl<S: Sink, H: Shelf> Handover<S, H> {
     /// The gap above last: the least number held above it, where the next one is not held.
-    #[tactic(auto, using(crate::proofs::Flows::above_past))]
+    #[tactic(auto, using(crate::proofs::Flows::above_over))]
     pub fn gap(&self) -> Option<u32>
         ensures gap { result ≡ gap self.now.last (H.Shelf.means self.now.shelf).held }
-        ensures above { IfSome result (λ least. self.now.last < least) }
+        ensures above { IfSome result (λ least. self.now.last + 1 < least) }
     {
         if self.holds_next() {
             return None;

@@ -1,18 +1,12 @@
 -- The claim in hand, and the claim that is out of a channel.
 use Rattle.std.specs.Prelude.{◌≡◌, Some, Option}
-use Rattle.std.specs.Option.{option_map, option_and_then, ForSome}
+use Rattle.std.specs.Option.{option_and_then, ForSome}
 use Rattle.channel.specs.declared.claim.Claim.{Claim}
-use Rattle.channel.specs.declared.channel.Channel.{Channel}
 use Rattle.channel.specs.States.{Opened}
-use Rattle.channel.specs.Channels.{opened_with}
 
 -- the claim that is out, of a channel that is open
 abbrev pub out_of : Option Opened → Option Claim
 out_of x = option_and_then (λ o. o.out) x
-
--- a channel of the code, open or closed, whatever its sink and its shelf mean
-abbrev pub opened_of : {X Y : Type 0} → Channel X Y → Option Opened
-opened_of c = option_map (opened_with c.handover.last) c.open
 
 -- THE CLAIM IN HAND, if one is, is the one that is out of the channel
 abbrev pub IsOut : Option Opened → Option Claim → Type 0

@@ -1,6 +1,7 @@
 //! An operator's desk, and running a list of actions at it.
 ghost use Rattle.std.proofs.Props.{props};
-ghost use Rattle.operator.specs.Hands.{opened_of, IsOut};
+ghost use Rattle.channel.specs.Channels.{opened_of};
+ghost use Rattle.operator.specs.Hands.{IsOut};
 
 use crate::action::{Action, Asked, Reply};
 use crate::place::{hold, place};
