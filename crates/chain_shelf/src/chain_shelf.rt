@@ -166,6 +166,7 @@ impl Shelf for ChainShelf {
 
     ghost lawful = { λ s. store_lawful s.region.items s.kept };
 
+    // Beside what the trait says, here and at `take`: what is not put or taken leaves the region as it was. Only the place may move.
     fn put(&mut self, number: u32, packet: &[u8]) -> Result<(), PutFault>
         ensures answer { result ≡ put_answer (store self.old.region.items) number packet.now }
         ensures after { store self.new.region.items ≡ put_after (store self.old.region.items) number packet.now }

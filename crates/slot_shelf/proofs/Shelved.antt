@@ -12,8 +12,18 @@ use Rattle.shelf.proofs.Kept.{has_insert, insert_swap, remove_insert, lookup_ins
 use Rattle.slot_shelf.specs.declared.slot.Slot.{Slot}
 use Rattle.slot_shelf.specs.declared.slot.Held.{Held}
 use Rattle.slot_shelf.specs.declared.slot.Room.{Room}
-use Rattle.slot_shelf.specs.Slots.{front, adds, sound_beside, slots_held, slots_sound, kept, fits, fronted, filled, roomed, marked, no_slot, holds_number, number_above, lesser}
+use Rattle.slot_shelf.specs.Slots.{front, adds, sound_beside, slots_held, slots_sound, kept, fits, fronted, roomed, marked, no_slot, holds_number, number_above}
 use Rattle.slot_shelf.specs.Shelved.{has_slot, units_slot, first_sound, up_held, units_most}
+
+-- a slot with a packet put in
+abbrev pub filled : Slot → ℕ → List ℕ → Slot
+filled s n p = record { room = fronted s.room p; held = Some (record { number = n; len = length p }) }
+
+-- the lesser of two numbers, of which each may be absent
+abbrev pub lesser : Option ℕ → Option ℕ → Option ℕ
+lesser None o = o
+lesser (Some a) None = Some a
+lesser (Some a) (Some b) = Some (min a b)
 
 -- whether a packet that is held has a number
 abbrev numbered : Option Held → ℕ → Bool

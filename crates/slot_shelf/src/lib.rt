@@ -141,6 +141,7 @@ impl Shelf for SlotShelf {
 
     ghost lawful = { λ s. slots_lawful s.slots.items s.sixteen s.sound };
 
+    // Beside what the trait says, here and at `take`: what is not put or taken leaves the slots as they were.
     fn put(&mut self, number: u32, packet: &[u8]) -> Result<(), PutFault>
         ensures answer { result ≡ put_answer (slot_store self.old.slots.items) number packet.now }
         ensures after { slot_store self.new.slots.items ≡ put_after (slot_store self.old.slots.items) number packet.now }

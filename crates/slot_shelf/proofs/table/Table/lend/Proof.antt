@@ -45,6 +45,7 @@ use borrow.Struct.Lend.{kept_record, record_apart, record_fill}
 use Rattle.std.proofs.SliceLists.{any-default}
 use Rattle.std.proofs.ptr.Rows.{hd}
 use Rattle.slot_shelf.specs.declared.table.Table.{Table}
+use Rattle.slot_shelf.specs.declared.table.TheConstants.{SLOTS}
 use Rattle.slot_shelf.specs.contracts.table.Table as table
 use Rattle.slot_shelf.specs.contracts.table.Table.lend.Key.{name as #self}
 use Rattle.slot_shelf.proofs.table.Table.lend.Statement as stated
@@ -62,7 +63,7 @@ module _ (X : RattleType) (L : Laws X) where
 
   -- where the array lies in the table
   abbrev d : ℕ
-  d = up (align (ty_array (layout X) 16)) 0
+  d = up (align (ty_array (layout X) SLOTS)) 0
 
   abbrev fn' : Fn
   fn' = inst_fn (layouts (a_type ∷ []) (X, tt)) code.function
@@ -80,12 +81,12 @@ module _ (X : RattleType) (L : Laws X) where
   abbrev spec : {M : Type 1} {𝓤 : Ura M} (𝓛 : Logic 𝓤) → Clauses 𝓤 ended
   spec {𝓤 = 𝓤} 𝓛 κs a = record {
     ghost = Unit {0};
-    requires = λ _. sep 𝓤 (fact 𝓤 (size (layout R) < 2 ^ 63)) (fact 𝓤 (a.1.0 < 16));
+    requires = λ _. sep 𝓤 (fact 𝓤 (size (layout R) < 2 ^ 63)) (fact 𝓤 (a.1.0 < SLOTS));
     ensures = λ _ r _. sep 𝓤 (sem 𝓛 (follows R Y a.0.ghost_name r.ghost_name (with_at a.0.now a.1.0))) (fact 𝓤 (r.now ≡ get_or a.0.now.items a.1.0 r.now));
   }
 
   abbrev loose : Looses (table.the_type Y).parts
-  loose = (row_loose (Array Y 16) (array_laws Y (param_laws 0 X L) 16), tt)
+  loose = (row_loose (Array Y SLOTS) (array_laws Y (param_laws 0 X L) SLOTS), tt)
 
 module _ (X : RattleType) (L : Laws X) {M : Type 1} {𝓤 : Ura M} (𝓛 : Logic 𝓤) (κ : Lft) (q : Share) (rb ro : ℕ) (γ : GName) (h : Table X.Denot) (i : ℕ) where
   open 𝓛 use {H, A}
@@ -107,13 +108,13 @@ module _ (X : RattleType) (L : Laws X) {M : Type 1} {𝓤 : Ura M} (𝓛 : Logic
   abbrev Rest : SProp 𝓤
   Rest = sep 𝓤 (sem 𝓛 (others (shares (Y X L)) full_share xs i rb o)) (mean 𝓛 rest)
 
-  back : length xs ≡ 16 → i < 16 → (w : X.Denot) → ent 𝓤 (sep 𝓤 (sem 𝓛 ((mem (Y X L)).own_at w rb at_i)) Rest) (sem 𝓛 ((mem (R X L)).own_at (with_at X L h i w) rb ro))
+  back : length xs ≡ SLOTS → i < SLOTS → (w : X.Denot) → ent 𝓤 (sep 𝓤 (sem 𝓛 ((mem (Y X L)).own_at w rb at_i)) Rest) (sem 𝓛 ((mem (R X L)).own_at (with_at X L h i w) rb ro))
   back l li w =
       qed 𝓛 (‵ (part_at (Y X L) full_share w rb at_i) ∷ (‵ (others (shares (Y X L)) full_share xs i rb o) ⊛ rest) ∷ []) ∵ move ! (1 ∷ []) $ split ! $ move ! (2 ∷ 0 ∷ []) $
       rewrite ! 0 (λ (k : ℕ). ‵ (part_at (Y X L) full_share w rb k)) (sym (place_is (s X L) o i)) refl $
       use2 𝓛 (‵ (row (Y X L) full_share (set xs i w) rb o)) (puts (shares (Y X L)) full_share 𝓛 xs i w rb o (subst (λ (k : ℕ). i < k) (sym l) li)) $
-      feq_i ! ℕ (length (set xs i w)) 16 (length-set xs i w ∙ l) $ fjoin ! $
-      use1 𝓛 (‵ (part_at (Array (Y X L) 16) full_share (set xs i w) rb o)) (Array-whole 𝓛 (Y X L) full_share 16 (set xs i w) rb o) $
+      feq_i ! ℕ (length (set xs i w)) SLOTS (length-set xs i w ∙ l) $ fjoin ! $
+      use1 𝓛 (‵ (part_at (Array (Y X L) SLOTS) full_share (set xs i w) rb o)) (Array-whole 𝓛 (Y X L) full_share SLOTS (set xs i w) rb o) $
       by ! (record_fill (table.the_type (Y X L)) (loose X L) 0 (d X L) (table.struct (Y X L)).as_values (table.struct (Y X L)).Ghost (table.struct (Y X L)).make (λ v. tt) (λ x. refl) (λ v g. refl) (λ x. x) refl (λ f. refl) M 𝓤 𝓛 h (set xs i w) rb ro)
 
   -- the element, lent
@@ -123,13 +124,13 @@ module _ (X : RattleType) (L : Laws X) {M : Type 1} {𝓤 : Ura M} (𝓛 : Logic
   abbrev Got : ((y : X.Denot) × (y ≡ get_or xs i y)) × GName → SProp 𝓤
   Got p = Lent p.0.0 p.1
 
-  lends : i < 16 → ent 𝓤 (sep 𝓤 (A.obs γ ((R X L).coded.code h)) (sep 𝓤 (A.bor κ (Body (mem (R X L)) rb ro γ)) (A.lft κ q))) (H.⇛ (ex 𝓤 Got))
+  lends : i < SLOTS → ent 𝓤 (sep 𝓤 (A.obs γ ((R X L).coded.code h)) (sep 𝓤 (A.bor κ (Body (mem (R X L)) rb ro γ)) (A.lft κ q))) (H.⇛ (ex 𝓤 Got))
   lends li =
       qed 𝓛 (‵ (fobs γ ((R X L).coded.code h)) ∷ ‵ (fbor κ (Body (mem (R X L)) rb ro γ)) ∷ ‵ (flft κ q) ∷ []) ∵ updating ! $
       open_ref ! tt (mem (R X L)) {b = rb} {o = ro} $
-      use1 𝓛 (‵ (part_at (Array (Y X L) 16) full_share xs rb o) ⊛ rest)
+      use1 𝓛 (‵ (part_at (Array (Y X L) SLOTS) full_share xs rb o) ⊛ rest)
       (record_apart (table.the_type (Y X L)) (loose X L) 0 (d X L) (table.struct (Y X L)).as_values (table.struct (Y X L)).Ghost (table.struct (Y X L)).make (λ v. tt) (λ x. refl) (λ v g. refl) (λ x. x) 𝓛 refl refl h rb ro) $ split ! $
-      use1 𝓛 (‵ (fsep (feq ℕ (length xs) 16) (row (Y X L) full_share xs rb o))) (Array-apart 𝓛 (Y X L) full_share tt 16 xs rb o) $ fsplit ! $ feq_l ! (λ l.
+      use1 𝓛 (‵ (fsep (feq ℕ (length xs) SLOTS) (row (Y X L) full_share xs rb o))) (Array-apart 𝓛 (Y X L) full_share tt SLOTS xs rb o) $ fsplit ! $ feq_l ! (λ l.
       let lt : i < length xs = subst (λ (k : ℕ). i < k) (sym l) li in
       let e : X.Denot = hd xs (omega arith) in
       let y : X.Denot = get_or xs i e in
@@ -155,10 +156,10 @@ module _ (X : RattleType) (L : Laws X) {M : Type 1} {𝓤 : Ura M} (𝓛 : Logic
         nothing ! $ nothing ! $ fjoin ! $ nothing ! $ fjoin ! $ join ! $ nothing ! $ move ! (2 ∷ 0 ∷ []) $ join ! $ join ! $ frame ! $ says ! e $ done !
 
     module _ (C : Calls 𝓤 H) (Λ : Loops 𝓤 H) where
-      walk : size (layout (R X L)) < 2 ^ 63 → i < 16 → ent 𝓤 (on_entry 𝓛 (ended X L).signature (κ, tt) (q, tt) (record { ref_ptr = (rb, ro); ghost_name = γ; now = h }, (i, tt)) (vptr rb ro ∷ [], (vint w64 i ∷ [], tt))) (WpFn 𝓤 H C Λ (fn' X L) (vptr rb ro ∷ vint w64 i ∷ []) Post)
+      walk : size (layout (R X L)) < 2 ^ 63 → i < SLOTS → ent 𝓤 (on_entry 𝓛 (ended X L).signature (κ, tt) (q, tt) (record { ref_ptr = (rb, ro); ghost_name = γ; now = h }, (i, tt)) (vptr rb ro ∷ [], (vint w64 i ∷ [], tt))) (WpFn 𝓤 H C Λ (fn' X L) (vptr rb ro ∷ vint w64 i ∷ []) Post)
       walk fit li =
-          let whole : d X L + 16 * s X L ≤ size (layout (R X L)) = field_in (table.struct (Y X L)).name (tcons (ty_array (layout X) 16) tnil) 0 (ty_array (layout X) 16) (d X L) refl in
-          let low : i * s X L ≤ 16 * s X L = mul-le-mul_right (s X L) (omega arith) in
+          let whole : d X L + SLOTS * s X L ≤ size (layout (R X L)) = field_in (table.struct (Y X L)).name (tcons (ty_array (layout X) SLOTS) tnil) 0 (ty_array (layout X) SLOTS) (d X L) refl in
+          let low : i * s X L ≤ SLOTS * s X L = mul-le-mul_right (s X L) (omega arith) in
           let tiny : s X L < 2 ^ 64 = omega arith in
           let fm : i * s X L < 2 ^ 64 = omega arith in
           qed 𝓛 ((‵ (flft κ q) ⊛ ‵ ftrue) ∷ ‵ (owns (MutRef (named 0) κ (R X L) ∷ usize ∷ []) (record { ref_ptr = (rb, ro); ghost_name = γ; now = h }, (i, tt)) (vptr rb ro ∷ [], (vint w64 i ∷ [], tt))) ∷ []) ∵
@@ -181,7 +182,7 @@ meets : (X : RattleType) (L : Laws X) {M : Type 1} {𝓤 : Ura M} (𝓛 : Logic 
 meets X L {𝓤 = 𝓤} 𝓛 𝓣 =
     walk_Meets 𝓛 (ended X L) (stayed X L) (Goes-spent_ref 𝓛 1 (0 ∷ []) tt (plain (λ _. R X L)), (Goes-dropped 𝓛 1 (plain (λ _. usize)) yes (λ κs x f. refl), tt)) (spec X L 𝓛) (WpFn 𝓤 𝓛.H 𝓣.C 𝓣.Λ (fn' X L)) (WpFn-mono 𝓤 𝓛.H 𝓛.laws 𝓣 (fn' X L))
     (walked 𝓛 (ended X L) (stayed X L) (spec X L 𝓛) (WpFn 𝓤 𝓛.H 𝓣.C 𝓣.Λ (fn' X L)) (λ κs. (mut_vals, (uint_vals w64, tt))) (λ κs. (mut_Tells (named 0) κs.0 (R X L), (uint_Tells w64, tt)))
-    (λ κs qs bounds a g are. needs_both 𝓤 (size (layout (R X L)) < 2 ^ 63) (a.1.0 < 16) _ (walk X L 𝓛 κs.0 qs.0 a.0.ref_ptr.0 a.0.ref_ptr.1 a.0.ghost_name a.0.now a.1.0 are.1.0.1 𝓣.C 𝓣.Λ)))
+    (λ κs qs bounds a g are. needs_both 𝓤 (size (layout (R X L)) < 2 ^ 63) (a.1.0 < SLOTS) _ (walk X L 𝓛 κs.0 qs.0 a.0.ref_ptr.0 a.0.ref_ptr.1 a.0.ghost_name a.0.now a.1.0 are.1.0.1 𝓣.C 𝓣.Λ)))
 
 pub lend_spec : {M : Type 1} → stated.statement M
 unfolding tables_of
