@@ -1,7 +1,7 @@
 -- How to make a proof of soundness.
 use Rattle.std.specs.Prelude.{◌≡◌, ℕ, ◌+◌, ◌-◌, ◌*◌, ◌/◌, ◌<◌, ◌≤◌, List, length}
 use Rattle.std.proofs.Common.{sym, ◌∙◌, ap, subst, arith}
-use Rattle.chain_shelf.specs.declared.region.TheConstants.{RECORD, FEWEST, MOST}
+use Rattle.chain_shelf.specs.declared.region.TheConstants.{RECORD, FEWEST_RECORDS, MOST_RECORDS}
 use Rattle.chain_shelf.specs.Records.{mem, records, link, next, tail, in_use, span, walk, cnt, heads, last}
 use Rattle.shelf.specs.Store.{units, Up, Sized}
 use Rattle.chain_shelf.specs.Chain.{Pack, layout, packets, tally, loose, packs, held, free, Seg, Sound, Whole, Kept}
@@ -9,7 +9,7 @@ use Rattle.chain_shelf.proofs.Segs.{seg_trail, heads_units}
 
 -- a write keeps the size
 pub closed : (b d : List ℕ) → Whole b → length d ≡ length b → Sound d → Kept d
-closed b d w e s = (subst (λ n. (n ≡ RECORD * (n / RECORD)) × (FEWEST ≤ n / RECORD) × (n / RECORD ≤ MOST)) (sym e) w, ∣ s ∣₁)
+closed b d w e s = (subst (λ n. (n ≡ RECORD * (n / RECORD)) × (FEWEST_RECORDS ≤ n / RECORD) × (n / RECORD ≤ MOST_RECORDS)) (sym e) w, ∣ s ∣₁)
 
 -- sound, by the first records, the packets and the free records
 pub sound_of : (b hs : List ℕ) (L : List Pack) (fs : List ℕ)
