@@ -61,7 +61,9 @@ impl TryFrom<Vec<u8>> for Region {
 
     fn try_from(bytes: Vec<u8>) -> Result<Region, RegionFault> {
         let size = bytes.len();
-        if !size.is_multiple_of(RECORD) || !(FEWEST_RECORDS..=MOST_RECORDS).contains(&(size / RECORD)) {
+        if !size.is_multiple_of(RECORD)
+            || !(FEWEST_RECORDS..=MOST_RECORDS).contains(&(size / RECORD))
+        {
             return Err(RegionFault::Size(bytes));
         }
         Ok(Region { bytes })

@@ -6,6 +6,7 @@ ghost use Rattle.shelf_cases.specs.Cases.{Cases};
 mod model;
 mod trial;
 
+use anyhow::ensure;
 use chain_shelf::{ChainShelf, Region};
 use model::{Model, Prices};
 use shelf::{Quota, Shelf};
@@ -21,10 +22,11 @@ fn compare<S: Shelf + Drop>(
     shelf: S,
     model: Model,
     numbers: u32,
-) -> anyhow::Result<()> {
-    Trial::new(rt.alloc(), shelf, model, numbers).run(CALLS)?;
+) -> anyhow::Result<S> {
+    let mut trial = Trial::new(rt.alloc(), shelf, model, numbers);
+    trial.run(CALLS)?;
     println!(rt; "{name}: {CALLS} calls agree")?;
-    Ok(())
+    Ok(trial.into_shelf())
 }
 
 // An empty chain shelf of so many records, in memory that held something else.
@@ -41,13 +43,16 @@ fn run(rt: &HostRuntime) -> anyhow::Result<()> {
     compare(rt, "chain of 26", chain(alloc, 26)?, records(25), 40)?;
     compare(rt, "chain of 300", chain(alloc, 300)?, records(299), 400)?;
     let quota = Quota::new(SlotShelf::new(), 9);
-    compare(rt, "slots under 9", quota, slots().under(9), 40)?;
+    let quota = compare(rt, "slots under 9", quota, slots().under(9), 40)?;
+    let units = quota.used();
+    ensure!(quota.into_below().used() == units, "what a quota held");
     let pile = Quota::new(Quota::new(chain(alloc, 300)?, 100), 7);
     let model = records(299).under(100).under(7);
     compare(rt, "chain of 300 under 100, 7", pile, model, 40)?;
     let pile = Quota::new(Quota::new(Quota::new(chain(alloc, 300)?, 90), 250), 60);
     let model = records(299).under(90).under(250).under(60);
-    compare(rt, "chain of 300 under 90, 250, 60", pile, model, 40)
+    compare(rt, "chain of 300 under 90, 250, 60", pile, model, 40)?;
+    Ok(())
 }
 
 /// Worked cases of a shelf's refusals and their order, of the lengths, and of the total under a quota: a theorem.

@@ -82,6 +82,12 @@ impl<S: Shelf> Trial<S> {
         Ok(())
     }
 
+    /// The shelf, as the calls left it.
+    pub fn into_shelf(self) -> S {
+        let Trial { shelf, .. } = self;
+        shelf
+    }
+
     // One random call.
     fn call(&mut self) -> anyhow::Result<()> {
         match self.random.below(400) {
