@@ -54,8 +54,9 @@ impl<'a> fmt::Display for ReplyLine<'a> {
             Reply::Settled(missing) => writeln!(f, "settled missing={missing}"),
             Reply::Restarted(Ok(())) => writeln!(f, "restarted last={last}"),
             Reply::Offered(Err(fault)) => writeln!(f, "{fault}"),
-            Reply::Made(Err(fault)) | Reply::Claimed(Err(fault)) | Reply::Restarted(Err(fault)) =>
-                writeln!(f, "{fault}"),
+            Reply::Made(Err(fault)) | Reply::Claimed(Err(fault)) | Reply::Restarted(Err(fault)) => {
+                writeln!(f, "{fault}")
+            }
             Reply::NoClaim => writeln!(f, "no claim"),
         }
     }
