@@ -13,7 +13,7 @@ use sink::{Sink, Twin};
 use std::alloc::{AllocError, Global};
 use std::collections::BTreeMap;
 use tally::{Row, Tally};
-use wire::{Side, read};
+use wire::{Message, Side, read};
 
 const EVENTS: u32 = 10_000;
 
@@ -27,6 +27,11 @@ const OLD_LEVEL: Level = Level {
     volume: 7,
     orders: 7,
 };
+
+// A level of each side, as a full update has them: what the books of tables held before.
+const OLD_POINTS: [u8; 24] = [
+    0, 0, 0, 7, 0, 0, 0, 7, 0, 7, b'B', 0, 0, 0, 0, 8, 0, 0, 0, 7, 0, 7, b'S', 0,
+];
 
 // What the rows of a tally held before.
 const OLD_ROW: Row = Row {
@@ -272,10 +277,10 @@ fn same_books(
     Ok(())
 }
 
-// Whether a keeper's side has these levels, the best first, and no other. The first, and none behind the last, is also read by its place.
+// Whether a keeper's side has these levels, the best first, and no other: read as a whole, and each by its place.
 fn same_side(keeper: &BookKeeper<'_, '_, '_>, index: u16, side: Side, owed: &[Level]) -> bool {
     keeper.levels(index, side) == owed
-        && keeper.level(index, side, 0) == owed.first().copied()
+        && (0..owed.len()).all(|place| keeper.level(index, side, place) == owed.get(place).copied())
         && keeper.level(index, side, owed.len()).is_none()
 }
 
@@ -302,7 +307,25 @@ fn old_levels(alloc: Global, depth: u16) -> Result<Vec<Level>, AllocError> {
     vec![in alloc; OLD_LEVEL; usize::from(BOOKS) * usize::from(depth)]
 }
 
-// The rows of the books are as an earlier trial left them.
+// Has a keeper know every book, and lets it go: its rows hold whole books then, with a level on each side.
+fn leave_whole(tables: Tables<'_, '_, '_>) -> anyhow::Result<()> {
+    let mut keeper = BookKeeper::new(tables);
+    for index in 1..=BOOKS {
+        let message = Message::Full {
+            index,
+            scale: 0,
+            points: &OLD_POINTS,
+        };
+        keeper.data(9, message);
+        ensure!(
+            keeper.book(index).is_some_and(|book| book.whole),
+            "a full book is not whole"
+        );
+    }
+    Ok(())
+}
+
+// The rows of the books hold what an earlier keeper left there: whole books, and so they are left again.
 fn run_trial(
     rt: &HostRuntime,
     books: &mut [BookRow],
@@ -329,16 +352,26 @@ fn run_trial(
     let Trial { mut sinks, .. } = trial;
     sinks.loss(EVENTS + 1);
     let (keeper, _tally) = sinks.into_parts();
-    ensure!(
-        all_unknown(&keeper.into_tables()),
-        "a lost book is given back"
-    );
+    let tables = keeper.into_tables();
+    ensure!(all_unknown(&tables), "a lost book is given back");
+    leave_whole(tables)?;
     println!(rt; "depth {depth}, rows {room}: {EVENTS} events agree")?;
     Ok(())
 }
 
+// Leaves whole books in the rows, before the first trial.
+fn use_rows(alloc: Global, books: &mut [BookRow]) -> anyhow::Result<()> {
+    let mut buys = old_levels(alloc, 1)?;
+    let mut sells = old_levels(alloc, 1)?;
+    match Tables::check(books, &mut buys, &mut sells, 1) {
+        Ok(tables) => leave_whole(tables),
+        Err(refused) => Err(refused.fault.into()),
+    }
+}
+
 fn run(rt: &HostRuntime) -> anyhow::Result<()> {
     let mut books = [BookRow::UNKNOWN; BOOKS as usize];
+    use_rows(rt.alloc(), &mut books)?;
     run_trial(rt, &mut books, 1, 2, 3)?;
     run_trial(rt, &mut books, 2, 6, 4)?;
     run_trial(rt, &mut books, 8, 6, 16)

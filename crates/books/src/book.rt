@@ -32,8 +32,8 @@ impl BookRow {
 }
 
 impl Book {
-    // A book of which nothing is known.
-    pub(crate) const UNKNOWN: Book = Book {
+    /// A book of which nothing is known.
+    pub const UNKNOWN: Book = Book {
         whole: false,
         touched: 0,
         buys: 0,

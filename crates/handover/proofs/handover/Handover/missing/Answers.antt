@@ -1,23 +1,18 @@
-use Rattle.std.proofs.Common.{◌≡◌, ◌+◌, ◌-◌, ltb, not, ◌&&◌, ◌∙◌, arith, rules, tests}
-use Rattle.std.proofs.lemmas.Iterator.Consumers.{count_from_yields_List, YieldsList-from_filter}
-use Rattle.shelf.specs.Store.{has}
-use Rattle.handover.specs.Flows.{missing}
-use Rattle.handover.proofs.Missing.{numbers_given, missing_filter, missing_fits}
-use Rattle.handover.proofs.handover.Handover.missing.Given as given
+use Rattle.std.proofs.Common.{sym, ◌∙◌, arith}
+use Rattle.handover.proofs.Missing.{counts, counts_not, above_last, missing_step}
 use Rattle.handover.proofs.handover.Handover.missing.Goals as goal
+use Rattle.handover.proofs.handover.Handover.missing.Goals.{then-lacks, else-lacks}
 
-counted : (g : given.Over) (c : goal.After-count g) → c.count.result ≡ missing c.args.self.now.last (g.H.Shelf.means c.args.self.now.shelf).held c.args.begin (c.args.end + 1 - c.args.begin)
-counted g c =
+pub loop-number-preserved : goal.loop-number-preserved
+loop-number-preserved g c =
     let l = c.args.self.now.last in
     let h = (g.H.Shelf.means c.args.self.now.shelf).held in
-    count_from_yields_List c.filter.result c.count.result c.count.ensures.ran
-    (YieldsList-from_filter _ (λ n. ltb l n && not (has h n)) (numbers_given _ c.new-numbers.result c.args.begin c.args.end c.filter.ensures.source c.new-numbers.ensures.start c.new-numbers.ensures.end c.new-numbers.ensures.exhausted) c.filter.ensures.closure
-    (λ x b q k. search (rules, tests)))
-    ∙ missing_filter l h c.args.begin (c.args.end + 1 - c.args.begin)
-
-pub overflow_cast-result : goal.overflow_cast-result
-overflow_cast-result g c =
-    omega (arith, counted g c, missing_fits c.args.self.now.last (g.H.Shelf.means c.args.self.now.shelf).held c.args.begin c.args.end c.ranges.end.fits)
-
-pub returns : goal.returns
-returns g c = counted g c
+    let n = c.loop-number.number in
+    let step = missing_step l h n c.args.end c.loop-number.count c.if-lacks.count in
+    elim c.if-lacks.branch [
+      | then-lacks w ↦
+          let t = sym w.if-lacks.ensures in
+          (step 1 c.loop-number-test.true (counts l h n t) w.count-is ∙ c.loop-number.invariant.0, omega (arith, w.count-is, c.loop-number.invariant.1, above_last l h n t))
+      | else-lacks w ↦
+          (step 0 c.loop-number-test.true (counts_not l h n (sym w.if-lacks.ensures)) (omega (arith, w.count-is)) ∙ c.loop-number.invariant.0, omega (arith, w.count-is, c.loop-number.invariant.1))
+    ]
