@@ -175,9 +175,10 @@ impl<S: Shelf> Trial<S> {
 
     // So many random bytes.
     fn bytes(&mut self, count: usize) -> Result<Vec<u8>, AllocError> {
-        let random = &mut self.random;
-        (0..count)
-            .map(|_| random.below(256) as u8)
-            .collect(self.alloc)
+        let mut bytes = vec![in self.alloc; 0; count]?;
+        for byte in &mut bytes {
+            *byte = self.random.below(256) as u8;
+        }
+        Ok(bytes)
     }
 }
