@@ -1,6 +1,8 @@
 -- What the library's decoding says of a word, in the words of `hex_bytes`.
-use Rattle.std.proofs.Common.{◌≡◌, ℕ, ◌+◌, ◌*◌, ◌%◌, Bool, true, false, List, [], ◌∷◌, length, Some, None, Ok, Err, Option, Result, ◌⊎◌, refl, ap, sym, ◌∙◌, arith, inl, inr, eqb, cond, subst}
+use Rattle.std.proofs.Common.{◌≡◌, ℕ, ◌+◌, ◌*◌, ◌%◌, Bool, true, false, ◌&&◌, List, [], ◌∷◌, length, Some, None, Ok, Err, Option, Result, ◌⊎◌, refl, ap, sym, ◌∙◌, arith, inl, inr, eqb, cond, subst}
 use Rattle.std.specs.Result.{result_ok, IsErrAnd}
+use Rattle.std.specs.List.{list_all}
+use Rattle.std.specs.Char.{is_ascii_hexdigit}
 use Rattle.std.proofs.lemmas.Bool.{eqb-true}
 use Rattle.std.proofs.lemmas.Bool.Decides.{nat_tests}
 use Rattle.hex.specs.declared.error.FromHexError.{FromHexError}
@@ -33,6 +35,25 @@ none_behind : (x y : Option ℕ) → in_front x y None ≡ None
 none_behind None y = refl
 none_behind (Some a) None = refl
 none_behind (Some a) (Some b) = refl
+
+no_digit : (b : ℕ) → is_ascii_hexdigit b ≡ false → nibble b ≡ None
+no_digit b e = grind (arith, nat_tests)
+
+none_second : (x : Option ℕ) (bs : Option (List ℕ)) → None ≡ in_front x None bs
+none_second None bs = refl
+none_second (Some a) bs = refl
+
+no_digits_by : (h l : ℕ) (bs : Option (List ℕ)) (t u v : Bool) → is_ascii_hexdigit h ≡ t → is_ascii_hexdigit l ≡ u → (t && (u && v)) ≡ false → (v ≡ false → None ≡ bs) → None ≡ in_front (nibble h) (nibble l) bs
+no_digits_by h l bs false u v e f n r = rw (no_digit h e) refl
+no_digits_by h l bs true false v e f n r = rw (no_digit l f) (none_second (nibble h) bs)
+no_digits_by h l bs true true v e f n r = rw (← r n) (sym (none_behind (nibble h) (nibble l)))
+
+-- a word with a byte that is no digit writes no bytes
+pub no_digits : (ds : List ℕ) → list_all is_ascii_hexdigit ds ≡ false → None ≡ hex_bytes ds
+no_digits [] e = cc
+no_digits (d ∷ []) e = refl
+no_digits (h ∷ (l ∷ ds)) e =
+    no_digits_by h l (hex_bytes ds) (is_ascii_hexdigit h) (is_ascii_hexdigit l) (list_all is_ascii_hexdigit ds) refl refl e (no_digits ds)
 
 -- an odd count of digits writes no bytes
 odd_none : (ds : List ℕ) → length ds % 2 ≡ 1 → hex_bytes ds ≡ None

@@ -1,4 +1,5 @@
 mod Digits
 mod Keys
 mod Numerals
+mod Others
 mod Verbs

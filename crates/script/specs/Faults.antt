@@ -7,7 +7,7 @@ use Rattle.script.specs.declared.error.ParseError.TheVariants.{Unreadable, OutOf
 
 abbrev pub parse_fault_text : ParseError → List ℕ
 parse_fault_text Unreadable = codes "unreadable"
-parse_fault_text OutOfMemory = codes "out of memory"
+parse_fault_text OutOfMemory = codes "memory allocation failed"
 
 -- digits that write no bytes make a line unreadable
 abbrev pub hex_fault : FromHexError → ParseError

@@ -1,6 +1,7 @@
 //! What a line of a script asks.
-ghost use Rattle.std.specs.Prelude.{◌≡◌, ◌∷◌};
-ghost use Rattle.console.specs.Words.{words_in};
+ghost use Rattle.std.specs.Prelude.{◌≡◌, [], ◌∷◌, cond};
+ghost use Rattle.console.specs.Words.{words_in, words_of, told_words};
+ghost use Rattle.script.specs.Words.{begins};
 ghost use Rattle.script.specs.Numbers.{number_in};
 ghost use Rattle.script.specs.Fields.{only_number};
 ghost use Rattle.script.specs.Commands.{Tells, TellsLine, command_in, asked, by_verb, make_in};
@@ -107,14 +108,21 @@ fn read_words(alloc: Global, word: &[u8], words: &[u8]) -> Result<Command, Parse
     read_command(alloc, Verb::try_from(word)?, words)
 }
 
+// The first word of a line and what stands behind it, or none: blank lines and lines that begin with `#` are passed over.
+pub(crate) fn first_word(line: &[u8]) -> Option<(&[u8], &[u8])>
+    ensures { words_of (told_words result) ≡ cond (begins 35 line.now) [] (words_in line.now) }
+{
+    if line.starts_with(b"#") {
+        return None;
+    }
+    next_word(line)
+}
+
 /// The command of a line, or none: blank lines and lines that begin with `#` are passed over.
 pub fn parse(alloc: Global, line: &[u8]) -> Result<Option<Command>, ParseError>
     ensures { TellsLine result (command_in line.now) }
 {
-    if line.starts_with(b"#") {
-        return Ok(None);
-    }
-    next_word(line)
+    first_word(line)
         .map(|(word, words)| read_words(alloc, word, words))
         .transpose()
 }

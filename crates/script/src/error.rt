@@ -23,7 +23,7 @@ impl fmt::Display for ParseError {
     fn fmt<W: fmt::Write>(&self, f: &mut fmt::Formatter<W>) -> fmt::Result {
         f.write_str(match self {
             ParseError::Unreadable => "unreadable",
-            ParseError::OutOfMemory => "out of memory",
+            ParseError::OutOfMemory => "memory allocation failed",
         })
     }
 }

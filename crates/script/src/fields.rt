@@ -1,6 +1,8 @@
 //! The words behind the first of a command.
 ghost use Rattle.std.specs.Prelude.{◌≡◌, vec_items};
 ghost use Rattle.std.specs.Option.{option_map};
+ghost use Rattle.std.specs.List.{list_all};
+ghost use Rattle.std.specs.Char.{is_ascii_hexdigit};
 ghost use Rattle.console.specs.Words.{words_in};
 ghost use Rattle.script.specs.Hex.{hex_bytes};
 ghost use Rattle.script.specs.Faults.{Reads};
@@ -27,11 +29,21 @@ pub(crate) fn only_number(words: &[u8]) -> Option<u32>
     read_number(only_word(words)?)
 }
 
-// The bytes that a word writes, two digits to a byte.
-#[tactic(auto, using(crate::proofs::Digits::decoded_ok, crate::proofs::Digits::decoded_err))]
+// Whether a word has hexadecimal digits alone.
+fn only_digits(word: &[u8]) -> bool
+    ensures { result ≡ list_all is_ascii_hexdigit word.now }
+{
+    word.iter().all(u8::is_ascii_hexdigit)
+}
+
+// The bytes that a word writes, two digits to a byte. No memory is taken for a word that writes none.
+#[tactic(auto, using(crate::proofs::Digits::decoded_ok, crate::proofs::Digits::decoded_err, crate::proofs::Digits::no_digits))]
 fn decode_hex(alloc: Global, digits: &[u8]) -> Result<Vec<u8>, ParseError>
     ensures { Reads vec_items result (hex_bytes digits.now) }
 {
+    if !only_digits(digits) {
+        return Err(ParseError::Unreadable);
+    }
     Ok(hex::decode(alloc, digits)?)
 }
 
