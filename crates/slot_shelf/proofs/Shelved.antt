@@ -1,9 +1,8 @@
 -- How what is held follows a slot that is filled or emptied, and what slots tell.
-use Rattle.std.specs.Prelude.{◌≡◌, ℕ, zero, suc, ◌^◌, ◌<◌, Bool, true, false, cond, List, [], ◌∷◌, length, get_or, drop, Some, None, IsNone, Option, is_some, is_none, filter, position, ◌==◌, nat_lt, slice_index_or, slice_set, refl}
+use Rattle.std.specs.Prelude.{◌≡◌, ℕ, zero, suc, ◌+◌, ◌^◌, ◌<◌, ◌≤◌, Bool, true, false, cond, List, [], ◌∷◌, length, get_or, drop, Some, None, IsNone, Option, is_some, is_none, filter, position, ◌==◌, nat_lt, slice_index_or, slice_set, refl}
 use Rattle.std.specs.Option.{option_map, option_map_or, option_and_then}
-use Rattle.std.specs.List.{fold}
 use Rattle.std.proofs.Common.{sym, ◌∙◌, ap, arith}
-use Rattle.std.proofs.lemmas.List.{take_at}
+use Rattle.std.proofs.lemmas.List.{at_drop_more, at_drop_all, take_at}
 use Rattle.std.proofs.lemmas.Bool.{both_ways, lt-ltb, eq-eqb}
 use Rattle.std.proofs.lemmas.Bool.Decides.{nat_tests}
 use Rattle.shelf.specs.Store.{Packets, Up, insert, remove, has, units, lookup, above, length_of}
@@ -195,13 +194,17 @@ lesser_none : (a : Option ℕ) → lesser a None ≡ a
 lesser_none None = refl
 lesser_none (Some a) = refl
 
--- the least number above k, of those held and one more, is found slot by slot
-pub above_least : (ss : List Slot) (k : ℕ) (m : Option ℕ) → lesser m (above (slots_held ss) k) ≡ fold (λ a s. lesser a (number_above s k)) m ss
-above_least [] k m = lesser_none m
-above_least (s ∷ ss) k m =
-    ap (lesser m) (above_adds s.room.bytes s.held (slots_held ss) k)
-    ∙ lesser_assoc m (number_above s k) (above (slots_held ss) k)
-    ∙ above_least ss k (lesser m (number_above s k))
+-- one more slot is asked
+pub above_more : (ss : List Slot) (i k : ℕ) (m : Option ℕ) → i < length ss → lesser m (above (slots_held (drop i ss)) k) ≡ lesser (lesser m (number_above (slice_index_or ss i no_slot) k)) (above (slots_held (drop (i + 1) ss)) k)
+above_more ss i k m l =
+    let s = slice_index_or ss i no_slot in
+    let h = slots_held (drop (i + 1) ss) in
+    at_drop_more (λ xs. lesser m (above (slots_held xs) k)) ss i no_slot l
+    ∙ ap (lesser m) (above_adds s.room.bytes s.held h k)
+    ∙ lesser_assoc m (number_above s k) (above h k)
+
+pub above_end : (ss : List Slot) (i k : ℕ) (m : Option ℕ) → length ss ≤ i → lesser m (above (slots_held (drop i ss)) k) ≡ m
+above_end ss i k m l = at_drop_all (λ xs. lesser m (above (slots_held xs) k)) ss i l ∙ lesser_none m
 
 -- the units are the slots that hold a packet, counted
 pub units_count : (ss : List Slot) → units (λ _. 1) (slots_held ss) ≡ length (filter (λ s. is_some s.held) ss)
