@@ -1,7 +1,7 @@
 -- What the library's decoding says of a word, in the words of `hex_bytes`.
 use Rattle.std.proofs.Common.{◌≡◌, ℕ, ◌+◌, ◌*◌, ◌%◌, Bool, true, false, ◌&&◌, List, [], ◌∷◌, length, Some, None, Ok, Err, Option, Result, ◌⊎◌, refl, ap, sym, ◌∙◌, arith, inl, inr, eqb, cond, subst}
 use Rattle.std.specs.Result.{result_ok, IsErrAnd}
-use Rattle.std.specs.List.{list_all, fold}
+use Rattle.std.specs.List.{list_all}
 use Rattle.std.specs.Char.{is_ascii_hexdigit}
 use Rattle.std.proofs.lemmas.Bool.{eqb-true}
 use Rattle.std.proofs.lemmas.Bool.Decides.{nat_tests}
@@ -35,16 +35,6 @@ none_behind : (x y : Option ℕ) → in_front x y None ≡ None
 none_behind None y = refl
 none_behind (Some a) None = refl
 none_behind (Some a) (Some b) = refl
-
-and_all : (test : ℕ → Bool) (a b : Bool) (xs : List ℕ) → ((a && b) && list_all test xs) ≡ (a && (b && list_all test xs))
-and_all test true b xs = refl
-and_all test false b xs = refl
-
--- a test that goes on after its first failure
-pub all_folded : (test : ℕ → Bool) (a : Bool) (xs : List ℕ) → fold (λ so_far x. so_far && test x) a xs ≡ (a && list_all test xs)
-all_folded test true [] = refl
-all_folded test false [] = refl
-all_folded test a (x ∷ xs) = all_folded test (a && test x) xs ∙ and_all test a (test x) xs
 
 no_digit : (b : ℕ) → is_ascii_hexdigit b ≡ false → nibble b ≡ None
 no_digit b e = grind (arith, nat_tests)

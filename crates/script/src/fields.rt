@@ -30,12 +30,10 @@ pub(crate) fn only_number(words: &[u8]) -> Option<u32>
 }
 
 // Whether a word has hexadecimal digits alone.
-// Kept as a fold: without an early end it compiles to steps over many bytes at once, which `all` does not.
 fn only_digits(word: &[u8]) -> bool
     ensures { result ≡ list_all is_ascii_hexdigit word.now }
 {
-    word.iter()
-        .fold(true, |digits, byte| digits & byte.is_ascii_hexdigit())
+    word.iter().all(u8::is_ascii_hexdigit)
 }
 
 // The bytes that a word writes, two digits to a byte. No memory is taken for a word that writes none.
