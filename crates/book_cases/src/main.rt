@@ -307,9 +307,8 @@ fn old_levels(alloc: Global, depth: u16) -> Result<Vec<Level>, AllocError> {
     vec![in alloc; OLD_LEVEL; usize::from(BOOKS) * usize::from(depth)]
 }
 
-// Has a keeper know every book, and lets it go: its rows hold whole books then, with a level on each side.
-fn leave_whole(tables: Tables<'_, '_, '_>) -> anyhow::Result<()> {
-    let mut keeper = BookKeeper::new(tables);
+// Has a keeper know every book: the rows of its tables hold whole books then, with a level on each side.
+fn know_all(keeper: &mut BookKeeper<'_, '_, '_>) -> anyhow::Result<()> {
     for index in 1..=BOOKS {
         let message = Message::Full {
             index,
@@ -354,7 +353,8 @@ fn run_trial(
     let (keeper, _tally) = sinks.into_parts();
     let tables = keeper.into_tables();
     ensure!(all_unknown(&tables), "a lost book is given back");
-    leave_whole(tables)?;
+    let mut keeper = BookKeeper::new(tables);
+    know_all(&mut keeper)?;
     println!(rt; "depth {depth}, rows {room}: {EVENTS} events agree")?;
     Ok(())
 }
@@ -364,7 +364,10 @@ fn use_rows(alloc: Global, books: &mut [BookRow]) -> anyhow::Result<()> {
     let mut buys = old_levels(alloc, 1)?;
     let mut sells = old_levels(alloc, 1)?;
     match Tables::check(books, &mut buys, &mut sells, 1) {
-        Ok(tables) => leave_whole(tables),
+        Ok(tables) => {
+            let mut keeper = BookKeeper::new(tables);
+            know_all(&mut keeper)
+        }
         Err(refused) => Err(refused.fault.into()),
     }
 }
